@@ -8,15 +8,18 @@ use lib.Dec.{eqb, ltb, leb}
 use lib.ListN.{length, getD}
 use Rattle.std.specs.declared.option.Option.{Option}
 use Rattle.std.specs.declared.option.Option.the-variants.{Some, None}
-use Rattle.std.proofs.shelf.Tests.{lt-ltb, ne-eqb, le-leb, and-from}
+use Rattle.std.proofs.shelf.Tests.{lt-ltb, ne-eqb, le-leb, leb-true, and-from}
 use Rattle.chip.specs.Layout.{Layout, Sound}
 use Rattle.chip.specs.Chips.{endsAt, joining, Joins}
 use Rattle.chip.proofs.Joining.{joining-joins, joins-joining}
 use Rattle.parity.specs.Words.{Gate}
 use Rattle.machine.specs.declared.fault.MachineFault.{MachineFault}
-use Rattle.machine.specs.declared.fault.MachineFault.the-variants.{PlaceOutOfRange, NotCoupled}
+use Rattle.machine.specs.declared.fault.MachineFault.the-variants.{PlaceOutOfRange, NotCoupled, AllowanceExceeded}
 use Rattle.machine.specs.Meaning.{Meaning}
-use Rattle.machine.specs.Calls.{servesAt, inService, coupled, fitsFault, cnotFault}
+use Rattle.std.specs.declared.result.Result.{Result}
+use Rattle.std.specs.declared.result.Result.the-variants.{Ok, Err}
+use Rattle.chip.specs.Answers.{answered}
+use Rattle.machine.specs.Calls.{couplerFault, servesAt, inService, coupled, fitsFault, cnotFault}
 use Rattle.machine.specs.OnCoupler.{OnCoupler, ObeysExactly}
 
 -- the two ends of a coupler are different places below n
@@ -79,3 +82,30 @@ pub obeys-exactly : ObeysExactly
 obeys-exactly l s g so h =
     (obeys-on-coupler l s g,
      λ on. on-coupler-obeys l s g so on ∙ (let e = le-leb 1 (s .allowance) h in rw e refl))
+
+ok-err : (r : Result Bool MachineFault) (b : Bool) (f : MachineFault) → r ≡ Ok b → r ≡ Err f → ⊥
+ok-err r b f p q = let z : _≡_ {A = ℕ} 0 1 = cc in omega arith
+
+-- `serves` does not refuse a coupler that joins two places
+pub found-serves : (l : Layout) (s : Meaning) (a b k : ℕ) (r : Result Bool MachineFault) (f : MachineFault)
+    → Some k ≡ joining a b (l .couplers) → r ≡ answered (couplerFault l k) (servesAt s k) → r ≡ Err f → ⊥
+found-serves l s a b k r f found answer bad =
+    let e = lt-ltb k (length (l .couplers)) (joining-joins l a b k (sym found) .there) in
+    ok-err r (servesAt s k) f (answer ∙ (rw e refl)) bad
+
+within : (s : Meaning) (b : Bool) → leb 1 (s .allowance) ≡ b → cond b None (Some (AllowanceExceeded 1 (s .allowance))) ≡ None → 1 ≤ s .allowance
+within s true e h = leb-true 1 (s .allowance) e
+within s false e h = absurd (some-none (AllowanceExceeded 1 (s .allowance)) h)
+
+-- what holds of a gate that is obeyed
+pub record Obeyed (l : Layout) (s : Meaning) (c t : ℕ) : Type 0 where
+  pub ends : Ends l (c, t)
+  pub left : 1 ≤ s .allowance
+
+pub obeyed : (l : Layout) (s : Meaning) (c t : ℕ) → Sound l → cnotFault l s c t ≡ None → Obeyed l s c t
+obeyed l s c t so h =
+    let on = obeys-on-coupler l s (c, t) h in
+    record {
+      ends = ends-of l c t (on .coupler) so (on .joins);
+      left = within s (leb 1 (s .allowance)) refl (sym (on-coupler-obeys l s (c, t) so on) ∙ h);
+    }

@@ -38,6 +38,26 @@ pub trait Machine: Chip {
     fn fits(&self, g: usize) -> Result<(), MachineFault>
         ensures { λ r. ⌜ r ≡ answered (fitsFault (meaning (now (self .entry))) g) tt ⌝ };
 
+    // Whether the CNOT with control c and target t would be obeyed.
+    fn check_cnot(&self, c: usize, t: usize) -> Result<(), MachineFault>
+        ensures { λ r. ⌜ r ≡ answered (cnotFault (Self·Chip .layout (now (self .entry))) (meaning (now (self .entry))) c t) tt ⌝ }
+    {
+        let n = self.width();
+        if c >= n || t >= n {
+            return Err(MachineFault::PlaceOutOfRange);
+        }
+        if c == t {
+            return Err(MachineFault::NotCoupled);
+        }
+        let Some(k) = self.joins(c, t) else {
+            return Err(MachineFault::NotCoupled);
+        };
+        if !self.serves(k)? {
+            return Err(MachineFault::NotCoupled);
+        }
+        self.fits(1)
+    }
+
     // The CNOT with control c and target t.
     fn cnot(&mut self, c: usize, t: usize) -> Result<(), MachineFault>
         ensures answer { λ r. ⌜ r ≡ answered (cnotFault (Self·Chip .layout (now (self .entry))) (meaning (now (self .entry))) c t) tt ⌝ }

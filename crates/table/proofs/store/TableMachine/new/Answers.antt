@@ -1,0 +1,10 @@
+use mathlib.Core.Path.{refl}
+use Rattle.table.proofs.Tables.{new-is}
+use Rattle.table.proofs.store.TableMachine.new.Needs as need
+
+pub returns : need.returns
+returns g c =
+    record {
+      same-chip = refl;
+      new = new-is (g .C·Chip .layout (c .args .chip)) (c .fresh-words .result) 1000000 (g .C·Chip·met .sound (c .args .chip)) (c .fresh-words .ensures);
+    }

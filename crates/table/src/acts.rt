@@ -1,0 +1,121 @@
+// The table machine as a chip and as a machine.
+ghost use mathlib.Core.Path.{_≡_};
+ghost use Prim.Native.Nat.{_-_, _^_, _≤_};
+ghost use Rattle.machine.specs.Meaning.{new};
+ghost use Rattle.table.specs.Table.{tableMeaning};
+use crate::store::TableMachine;
+use chip::Chip;
+use chip::fault::ChipFault;
+use machine::Machine;
+use machine::fault::MachineFault;
+use parity::fresh_words;
+
+// The gates that a new table machine takes.
+const ALLOWANCE: usize = 1_000_000;
+
+impl<C: Chip> TableMachine<C> {
+    // A new machine: fresh words, all couplers in service.
+    pub fn new(chip: C) -> TableMachine<C>
+        ensures same_chip { λ r. ⌜ r .chip ≡ chip ⌝ }
+        ensures new { λ r. ⌜ tableMeaning (C·Chip .layout (r .chip)) (r .words) (r .service) (r .left) ≡ new (C·Chip .layout chip) 1000000 ⌝ }
+    {
+        TableMachine {
+            chip,
+            words: fresh_words(),
+            service: [true; 256],
+            left: ALLOWANCE,
+        }
+    }
+
+    // Ends the machine and hands its chip back.
+    pub fn into_chip(self) -> C
+        ensures { λ r. ⌜ r ≡ self .chip ⌝ }
+    {
+        let TableMachine {
+            chip,
+            words: _,
+            service: _,
+            left: _,
+        } = self;
+        chip
+    }
+}
+
+// A word whose bits below n are set.
+fn low_bits(n: usize) -> u64
+    requires { ⌜ 1 ≤ n ⌝ ∗ ⌜ n ≤ 64 ⌝ }
+    ensures { λ r. ⌜ r ≡ 2 ^ n - 1 ⌝ }
+{
+    u64::MAX >> (64 - n)
+}
+
+pub impl<C: Chip> Chip for TableMachine<C> as TableIsChip {
+    ghost layout = { λ m. C·Chip .layout (m .chip) };
+
+    fn width(&self) -> usize {
+        self.chip.width()
+    }
+
+    fn couplers(&self) -> usize {
+        self.chip.couplers()
+    }
+
+    fn ends(&self, k: usize) -> Result<(usize, usize), ChipFault> {
+        self.chip.ends(k)
+    }
+
+    fn joins(&self, a: usize, b: usize) -> Option<usize> {
+        self.chip.joins(a, b)
+    }
+}
+
+pub impl<C: Chip> Machine for TableMachine<C> as TableIsMachine {
+    ghost meaning = { λ m. tableMeaning (C·Chip .layout (m .chip)) (m .words) (m .service) (m .left) };
+
+    fn word(&self, q: usize) -> Result<u64, MachineFault> {
+        let n = self.chip.width();
+        if q < n {
+            Ok(self.words[q] & low_bits(n))
+        } else {
+            Err(MachineFault::PlaceOutOfRange)
+        }
+    }
+
+    fn serves(&self, k: usize) -> Result<bool, MachineFault> {
+        if k < self.chip.couplers() {
+            Ok(self.service[k])
+        } else {
+            Err(MachineFault::NoSuchCoupler)
+        }
+    }
+
+    fn allowance(&self) -> usize {
+        self.left
+    }
+
+    fn set(&mut self, k: usize, on: bool) -> Result<(), MachineFault> {
+        if k >= self.chip.couplers() {
+            return Err(MachineFault::NoSuchCoupler);
+        }
+        self.service[k] = on;
+        Ok(())
+    }
+
+    fn fits(&self, g: usize) -> Result<(), MachineFault> {
+        if g <= self.left {
+            Ok(())
+        } else {
+            Err(MachineFault::AllowanceExceeded {
+                asked: g,
+                left: self.left,
+            })
+        }
+    }
+
+    fn cnot(&mut self, c: usize, t: usize) -> Result<(), MachineFault> {
+        self.check_cnot(c, t)?;
+        self.words[t] ^= self.words[c];
+        self.left -= 1;
+        Ok(())
+    }
+}

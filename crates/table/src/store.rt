@@ -1,0 +1,13 @@
+// What the table machine keeps: the chip, a word for each place, a mark for each coupler, and the allowance.
+ghost use mathlib.Core.Path.{_≡_};
+ghost use lib.ListN.{length};
+
+#[derive(Drop)]
+pub struct TableMachine<C> {
+    pub(crate) chip: C,
+    pub(crate) words: [u64; 64],
+    pub(crate) service: [bool; 256],
+    pub(crate) left: usize,
+    ghost word_room: { length words ≡ 64 },
+    ghost mark_room: { length service ≡ 256 },
+}
