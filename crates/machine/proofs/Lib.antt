@@ -1,1 +1,2 @@
 pub mod OnCouplers
+pub mod Services

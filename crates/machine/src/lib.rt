@@ -7,6 +7,8 @@ ghost use Rattle.machine.specs.Calls.{wordFault, couplerFault, fitsFault, cnot
 ghost use Rattle.machine.specs.OnCoupler.{ObeysExactly};
 
 pub mod fault;
+pub mod marks;
+pub mod service;
 
 use chip::Chip;
 use fault::MachineFault;

@@ -9,12 +9,15 @@ use lib.ListN.{length, getD, take, set, replicate, List·getD-map}
 use lib.Seq.{getD-take, take-set-lt, map-set}
 use lib.Pow.{pow-pos, pow-lt}
 use lib.Bits.{bitXor, bitAnd, xor-comm, xor-mod, and-mask}
-use Rattle.std.proofs.shelf.Lists.{length-map, length-take, take-replicate}
+use Rattle.std.proofs.shelf.Lists.{length-map, length-take}
 use Rattle.std.proofs.shelf.Bits.{pow-add, shr-high}
 use Rattle.chip.specs.Layout.{Layout, Sound}
 use Rattle.parity.specs.Words.{Gate, cnot, fresh}
 use Rattle.parity.proofs.Words.{length-fresh, getD-fresh, take-fresh, fresh-from}
-use Rattle.machine.specs.Meaning.{Meaning, Fitting, switched, played, new}
+use Rattle.machine.specs.declared.marks.Marks.{Marks}
+use Rattle.machine.specs.Meaning.{Meaning, Fitting, played, new}
+use Rattle.machine.specs.Service.{serviceOf}
+use Rattle.machine.proofs.Services.{one-mark-each, all-in}
 use Rattle.table.specs.Table.{tableMeaning}
 
 -- the words of n places, bits n and above cut off
@@ -29,12 +32,11 @@ getD-low n q ws h =
 length-low : (n : ℕ) (ws : List ℕ) → n ≤ length ws → length (low n ws) ≡ n
 length-low n ws h = length-map (take n ws) (λ (w : ℕ). w % 2 ^ n) ∙ (let e = length-take n ws in omega arith)
 
-pub fits : (l : Layout) (ws : List ℕ) (on : List Bool) (left : ℕ) → Sound l → length ws ≡ 64 → length on ≡ 256 → Fitting l (tableMeaning l ws on left)
-fits l ws on left so wide long =
+pub fits : (l : Layout) (ws : List ℕ) (marks : Marks) (left : ℕ) → Sound l → length ws ≡ 64 → Fitting l (tableMeaning l ws marks left)
+fits l ws marks left so wide =
     let a = so .at-most-64 in
-    let b = so .at-most-256 in
     record {
-      one-mark-each = let e = length-take (length (l .couplers)) on in omega arith;
+      one-mark-each = one-mark-each l marks so;
       one-word-each = length-low (l .places) ws (omega arith);
       words-below = λ q h. let e = getD-low (l .places) q ws h in let m = mod-lt (getD ws q 0) (pow-pos (l .places)) in omega arith;
     }
@@ -44,27 +46,22 @@ low-fresh n h =
     fresh-from (low n (fresh 64)) n (length-low n (fresh 64) (let e = length-fresh 64 in omega arith))
     (λ q lt. getD-low n q (fresh 64) lt ∙ ap (λ (w : ℕ). w % 2 ^ n) (getD-fresh 64 q (omega arith)) ∙ mod-eq-of-lt (pow-lt lt))
 
-pub new-is : (l : Layout) (ws : List ℕ) (left : ℕ) → Sound l → ws ≡ fresh 64 → tableMeaning l ws (replicate 256 true) left ≡ new l left
-new-is l ws left so e =
+pub new-is : (l : Layout) (ws : List ℕ) (marks : Marks) (left : ℕ) → Sound l → ws ≡ fresh 64 → marks .marks ≡ replicate 256 true
+    → tableMeaning l ws marks left ≡ new l left
+new-is l ws marks left so e all =
     ap₂ (λ (on : List Bool) (w : List ℕ). record { service = on; words = w; allowance = left })
-    (take-replicate (length (l .couplers)) 256 true (so .at-most-256))
+    (all-in l marks so all)
     (ap (low (l .places)) e ∙ low-fresh (l .places) (so .at-most-64))
 
 pub word-is : (l : Layout) (ws : List ℕ) (q mask : ℕ) → q < l .places → mask ≡ 2 ^ l .places - 1
     → bitAnd (getD ws q 0) mask ≡ getD (low (l .places) ws) q 0
 word-is l ws q mask h e = ap (bitAnd (getD ws q 0)) e ∙ and-mask (getD ws q 0) (l .places) ∙ sym (getD-low (l .places) q ws h)
 
-pub set-is : (l : Layout) (ws : List ℕ) (on : List Bool) (left k : ℕ) (v : Bool) → k < length (l .couplers)
-    → tableMeaning l ws (set on k v) left ≡ switched (tableMeaning l ws on left) k v
-set-is l ws on left k v h = rw take-set-lt refl
-
-pub cnot-is : (l : Layout) (ws : List ℕ) (on : List Bool) (left c t : ℕ) → c < l .places → t < l .places
-    → tableMeaning l (set ws t (bitXor (getD ws t 0) (getD ws c 0))) on (left - 1) ≡ played (tableMeaning l ws on left) (c, t)
-cnot-is l ws on left c t hc ht =
-    ap (λ (w : List ℕ). record { service = take (length (l .couplers)) on; words = w; allowance = left - 1 }) words
+pub cnot-is : (l : Layout) (ws : List ℕ) (marks : Marks) (left c t : ℕ) → c < l .places → t < l .places
+    → tableMeaning l (set ws t (bitXor (getD ws t 0) (getD ws c 0))) marks (left - 1) ≡ played (tableMeaning l ws marks left) (c, t)
+cnot-is l ws marks left c t hc ht =
+    ap (λ (w : List ℕ). record { service = serviceOf l marks; words = w; allowance = left - 1 }) words
   where
-    n : ℕ
-    n = l .places
     words : low (l .places) (set ws t (bitXor (getD ws t 0) (getD ws c 0))) ≡ cnot (c, t) (low (l .places) ws)
     words =
         ap (map (λ (w : ℕ). w % 2 ^ l .places)) (take-set-lt (l .places) ws t (bitXor (getD ws t 0) (getD ws c 0)) ht)

@@ -8,6 +8,7 @@ use chip::Chip;
 use chip::fault::ChipFault;
 use machine::Machine;
 use machine::fault::MachineFault;
+use machine::marks::Marks;
 use parity::fresh_words;
 
 // The gates that a new table machine takes.
@@ -22,7 +23,7 @@ impl<C: Chip> TableMachine<C> {
         TableMachine {
             chip,
             words: fresh_words(),
-            service: [true; 256],
+            service: Marks::all_in_service(),
             left: ALLOWANCE,
         }
     }
@@ -82,11 +83,7 @@ pub impl<C: Chip> Machine for TableMachine<C> as TableIsMachine {
     }
 
     fn serves(&self, k: usize) -> Result<bool, MachineFault> {
-        if k < self.chip.couplers() {
-            Ok(self.service[k])
-        } else {
-            Err(MachineFault::NoSuchCoupler)
-        }
+        self.service.serves(&self.chip, k)
     }
 
     fn allowance(&self) -> usize {
@@ -94,11 +91,7 @@ pub impl<C: Chip> Machine for TableMachine<C> as TableIsMachine {
     }
 
     fn set(&mut self, k: usize, on: bool) -> Result<(), MachineFault> {
-        if k >= self.chip.couplers() {
-            return Err(MachineFault::NoSuchCoupler);
-        }
-        self.service[k] = on;
-        Ok(())
+        self.service.set(&self.chip, k, on)
     }
 
     fn fits(&self, g: usize) -> Result<(), MachineFault> {

@@ -6,5 +6,5 @@ pub returns : need.returns
 returns g c =
     record {
       same-chip = refl;
-      new = new-is (g .C·Chip .layout (c .args .chip)) (c .fresh-words .result) 1000000 (g .C·Chip·met .sound (c .args .chip)) (c .fresh-words .ensures);
+      new = new-is (g .C·Chip .layout (c .args .chip)) (c .fresh-words .result) (c .all-in-service .result) 1000000 (g .C·Chip·met .sound (c .args .chip)) (c .fresh-words .ensures) (c .all-in-service .ensures);
     }
