@@ -1,7 +1,8 @@
 // Service marks beside a chip: what every machine that keeps its own marks shares.
 ghost use mathlib.Core.Path.{_≡_};
 ghost use mathlib.Core.Bool.{false, true};
-ghost use lib.ListN.{getD, replicate, set, length};
+ghost use Prim.Native.Nat.{_<_};
+ghost use lib.ListN.{getD, replicate, set};
 ghost use Rattle.chip.specs.Answers.{answered, kept};
 ghost use Rattle.machine.specs.Calls.{couplerFault};
 ghost use Rattle.machine.specs.Service.{serviceOf};
@@ -22,7 +23,7 @@ impl Marks {
         ensures { λ r. ⌜ r ≡ answered (couplerFault (C·Chip .layout (now (chip .entry))) k) (getD (serviceOf (C·Chip .layout (now (chip .entry))) (now (self .entry))) k false) ⌝ }
     {
         if k < chip.couplers() {
-            Ok(self.marks[k])
+            Ok(self.mark(k))
         } else {
             Err(MachineFault::NoSuchCoupler)
         }
@@ -36,7 +37,21 @@ impl Marks {
         if k >= chip.couplers() {
             return Err(MachineFault::NoSuchCoupler);
         }
-        self.marks[k] = on;
+        self.mark_as(k, on);
         Ok(())
+    }
+
+    fn mark(&self, k: usize) -> bool
+        requires { ⌜ k < 256 ⌝ }
+        ensures { λ r. ⌜ r ≡ getD (now (self .entry) .marks) k false ⌝ }
+    {
+        self.marks[k]
+    }
+
+    fn mark_as(&mut self, k: usize, on: bool)
+        requires { ⌜ k < 256 ⌝ }
+        ensures { λ _. ⌜ now (self .exit) .marks ≡ set (now (self .entry) .marks) k on ⌝ }
+    {
+        self.marks[k] = on;
     }
 }

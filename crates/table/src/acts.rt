@@ -1,6 +1,8 @@
 // The table machine as a chip and as a machine.
 ghost use mathlib.Core.Path.{_≡_};
-ghost use Prim.Native.Nat.{_-_, _^_, _≤_};
+ghost use Prim.Native.Nat.{_-_, _^_, _≤_, _<_};
+ghost use lib.ListN.{getD, set};
+ghost use lib.Bits.{bitXor};
 ghost use Rattle.machine.specs.Meaning.{new};
 ghost use Rattle.table.specs.Table.{tableMeaning};
 use crate::store::TableMachine;
@@ -20,12 +22,7 @@ impl<C: Chip> TableMachine<C> {
         ensures same_chip { λ r. ⌜ r .chip ≡ chip ⌝ }
         ensures new { λ r. ⌜ tableMeaning (C·Chip .layout (r .chip)) (r .words) (r .service) (r .left) ≡ new (C·Chip .layout chip) 1000000 ⌝ }
     {
-        TableMachine {
-            chip,
-            words: fresh_words(),
-            service: Marks::all_in_service(),
-            left: ALLOWANCE,
-        }
+        TableMachine::with_allowance(chip, ALLOWANCE)
     }
 
     // Ends the machine and hands its chip back.
@@ -39,6 +36,40 @@ impl<C: Chip> TableMachine<C> {
             left: _,
         } = self;
         chip
+    }
+}
+
+impl<C: Chip> TableMachine<C> {
+    fn with_allowance(chip: C, left: usize) -> TableMachine<C>
+        ensures same_chip { λ r. ⌜ r .chip ≡ chip ⌝ }
+        ensures new { λ r. ⌜ tableMeaning (C·Chip .layout (r .chip)) (r .words) (r .service) (r .left) ≡ new (C·Chip .layout chip) left ⌝ }
+    {
+        TableMachine {
+            chip,
+            words: fresh_words(),
+            service: Marks::all_in_service(),
+            left,
+        }
+    }
+
+    // The word at place q, its bits below n.
+    fn low_word(&self, q: usize) -> u64
+        requires { ⌜ q < C·Chip .layout (now self .chip) .places ⌝ }
+        ensures { λ r. ⌜ r ≡ getD (tableMeaning (C·Chip .layout (now (self .entry) .chip)) (now (self .entry) .words) (now (self .entry) .service) (now (self .entry) .left) .words) q 0 ⌝ }
+    {
+        self.words[q] & low_bits(self.chip.width())
+    }
+
+    // Adds the word at place c into that at place t, for one gate of the allowance.
+    fn add_word(&mut self, c: usize, t: usize)
+        requires { ⌜ c < 64 ⌝ ∗ ⌜ t < 64 ⌝ ∗ ⌜ 1 ≤ now self .left ⌝ }
+        ensures words { λ _. ⌜ now (self .exit) .words ≡ set (now (self .entry) .words) t (bitXor (getD (now (self .entry) .words) t 0) (getD (now (self .entry) .words) c 0)) ⌝ }
+        ensures left { λ _. ⌜ now (self .exit) .left ≡ now (self .entry) .left - 1 ⌝ }
+        ensures chip { λ _. ⌜ now (self .exit) .chip ≡ now (self .entry) .chip ⌝ }
+        ensures service { λ _. ⌜ now (self .exit) .service ≡ now (self .entry) .service ⌝ }
+    {
+        self.words[t] ^= self.words[c];
+        self.left -= 1;
     }
 }
 
@@ -74,9 +105,8 @@ pub impl<C: Chip> Machine for TableMachine<C> as TableIsMachine {
     ghost meaning = { λ m. tableMeaning (C·Chip .layout (m .chip)) (m .words) (m .service) (m .left) };
 
     fn word(&self, q: usize) -> Result<u64, MachineFault> {
-        let n = self.chip.width();
-        if q < n {
-            Ok(self.words[q] & low_bits(n))
+        if q < self.chip.width() {
+            Ok(self.low_word(q))
         } else {
             Err(MachineFault::PlaceOutOfRange)
         }
@@ -107,8 +137,7 @@ pub impl<C: Chip> Machine for TableMachine<C> as TableIsMachine {
 
     fn cnot(&mut self, c: usize, t: usize) -> Result<(), MachineFault> {
         self.check_cnot(c, t)?;
-        self.words[t] ^= self.words[c];
-        self.left -= 1;
+        self.add_word(c, t);
         Ok(())
     }
 }

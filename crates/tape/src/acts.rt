@@ -1,6 +1,9 @@
 // The tape machine as a chip and as a machine.
 ghost use mathlib.Core.Path.{_≡_};
-ghost use Rattle.std.specs.Of.Vec.{vec-items};
+ghost use mathlib.Core.List.{[], _∷_, _++_};
+ghost use Prim.Native.Nat.{_+_, _*_, _<_};
+ghost use lib.ListN.{getD};
+ghost use Rattle.std.specs.Of.Vec.{vec-items, vec-len};
 ghost use Rattle.tape.specs.Tape.{tapeMeaning, Makes};
 use crate::store::TapeMachine;
 use chip::Chip;
@@ -68,6 +71,30 @@ impl<C: Chip> TapeMachine<C> {
     }
 }
 
+impl<C: Chip> TapeMachine<C> {
+    // The word at place q after the gates kept.
+    fn replayed_word(&self, q: usize) -> u64
+        requires { ⌜ q < C·Chip .layout (now self .chip) .places ⌝ }
+        ensures { λ r. ⌜ r ≡ getD (tapeMeaning (C·Chip .layout (now (self .entry) .chip)) (vec-items (now (self .entry) .tape)) (now (self .entry) .length) (now (self .entry) .service) .words) q 0 ⌝ }
+    {
+        let n = self.chip.width();
+        let mut words = fresh_words();
+        replay_entries(self.entries(), &mut words[0..n]);
+        words[q]
+    }
+
+    // Puts a gate on the tape.
+    fn keep(&mut self, c: usize, t: usize)
+        requires { ⌜ c < 64 ⌝ ∗ ⌜ t < 64 ⌝ ∗ ⌜ vec-len (now self .tape) < now self .length ⌝ }
+        ensures entries { λ _. ⌜ vec-items (now (self .exit) .tape) ≡ vec-items (now (self .entry) .tape) ++ (64 * c + t) ∷ [] ⌝ }
+        ensures length { λ _. ⌜ now (self .exit) .length ≡ now (self .entry) .length ⌝ }
+        ensures chip { λ _. ⌜ now (self .exit) .chip ≡ now (self .entry) .chip ⌝ }
+        ensures service { λ _. ⌜ now (self .exit) .service ≡ now (self .entry) .service ⌝ }
+    {
+        self.tape.push_reserved((64 * c + t) as u16);
+    }
+}
+
 pub impl<C: Chip> Chip for TapeMachine<C> as TapeIsChip {
     ghost layout = { λ m. C·Chip .layout (m .chip) };
 
@@ -92,13 +119,11 @@ pub impl<C: Chip> Machine for TapeMachine<C> as TapeIsMachine {
     ghost meaning = { λ m. tapeMeaning (C·Chip .layout (m .chip)) (vec-items (m .tape)) (m .length) (m .service) };
 
     fn word(&self, q: usize) -> Result<u64, MachineFault> {
-        let n = self.chip.width();
-        if q >= n {
-            return Err(MachineFault::PlaceOutOfRange);
+        if q < self.chip.width() {
+            Ok(self.replayed_word(q))
+        } else {
+            Err(MachineFault::PlaceOutOfRange)
         }
-        let mut words = fresh_words();
-        replay_entries(self.tape.as_slice(), &mut words[0..n]);
-        Ok(words[q])
     }
 
     fn serves(&self, k: usize) -> Result<bool, MachineFault> {
@@ -114,7 +139,7 @@ pub impl<C: Chip> Machine for TapeMachine<C> as TapeIsMachine {
     }
 
     fn fits(&self, g: usize) -> Result<(), MachineFault> {
-        let left = self.length - self.tape.len();
+        let left = self.allowance();
         if g <= left {
             Ok(())
         } else {
@@ -124,7 +149,7 @@ pub impl<C: Chip> Machine for TapeMachine<C> as TapeIsMachine {
 
     fn cnot(&mut self, c: usize, t: usize) -> Result<(), MachineFault> {
         self.check_cnot(c, t)?;
-        self.tape.push_reserved((64 * c + t) as u16);
+        self.keep(c, t);
         Ok(())
     }
 }
