@@ -41,11 +41,11 @@ impl Marks {
         Ok(())
     }
 
-    fn mark(&self, k: usize) -> bool
-        requires { ⌜ k < 256 ⌝ }
-        ensures { λ r. ⌜ r ≡ getD (now (self .entry) .marks) k false ⌝ }
+    fn mark(&self, at: usize) -> bool
+        requires { ⌜ at < 256 ⌝ }
+        ensures { λ r. ⌜ r ≡ getD (now (self .entry) .marks) at false ⌝ }
     {
-        self.marks[k]
+        self.marks[at]
     }
 
     fn mark_as(&mut self, k: usize, on: bool)

@@ -3,7 +3,7 @@ use mathlib.Core.Path.{_≡_}
 use mathlib.Core.List.{List, map}
 use mathlib.Core.Bool.{cond}
 use Prim.Native.Nat.{ℕ, _-_}
-use lib.Dec.{leb}
+use lib.Dec.{ltb}
 use lib.ListN.{length}
 use Rattle.std.specs.Of.Vec.{vec-items}
 use Rattle.std.specs.declared.option.Option.{Option}
@@ -29,7 +29,7 @@ tapeMeaning l entries long marks = record {
 }
 
 abbrev pub tapeFault : ℕ → Option MachineFault
-tapeFault long = cond (leb long 8192) None (Some TapeTooLong)
+tapeFault long = cond (ltb 8192 long) (Some TapeTooLong) None
 
 -- past the checks only memory can be wanting
 abbrev pub Refuses : Option MachineFault → MachineFault → Type 0

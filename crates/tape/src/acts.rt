@@ -2,6 +2,7 @@
 ghost use mathlib.Core.Path.{_≡_};
 ghost use mathlib.Core.List.{[], _∷_, _++_};
 ghost use Prim.Native.Nat.{_+_, _*_, _<_};
+ghost use lib.Dec.{ltb};
 ghost use lib.ListN.{getD};
 ghost use Rattle.std.specs.Of.Vec.{vec-items, vec-len};
 ghost use Rattle.tape.specs.Tape.{tapeMeaning, Makes};
@@ -25,12 +26,18 @@ pub struct NotMade<C> {
     pub fault: MachineFault,
 }
 
+fn too_long(length: usize) -> bool
+    ensures { λ r. ⌜ r ≡ ltb 8192 length ⌝ }
+{
+    length > LONGEST
+}
+
 impl<C: Chip> TapeMachine<C> {
     // A new machine with a tape of so many entries, had here and never again.
     pub fn new(heap: Global, chip: C, length: usize) -> Result<TapeMachine<C>, NotMade<C>>
         ensures { λ r. ⌜ Makes (C·Chip .layout) chip length r ⌝ }
     {
-        if length > LONGEST {
+        if too_long(length) {
             return Err(NotMade {
                 chip,
                 fault: MachineFault::TapeTooLong,

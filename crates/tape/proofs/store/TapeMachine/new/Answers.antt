@@ -1,13 +1,12 @@
+use borrow.Author.Needs.{needs}
 use mathlib.Core.Path.{refl}
 use Rattle.std.specs.Of.Vec.{vec-items}
-use Rattle.std.proofs.shelf.Tests.{le-leb}
 use Rattle.tape.proofs.Tapes.{new-is}
 use Rattle.tape.proofs.store.TapeMachine.new.Needs as need
 
 pub returns-in-Ok : need.returns-in-Ok
 returns-in-Ok g c =
-    let fits = le-leb (c .args .length) 8192 (c .if-length-gt-LONGEST .left) in
-    (rw fits refl,
+    (search needs,
      refl,
      new-is (g .C·Chip .layout (c .args .chip)) (vec-items (c .in-Ok .tape)) (c .args .length) (c .all-in-service .result)
      (g .C·Chip·met .sound (c .args .chip)) (c .in-Ok .ensures tt .made .0) (c .all-in-service .ensures))

@@ -1,0 +1,4 @@
+pub mod Bounded
+pub mod Couplers
+pub mod Reading
+pub mod Faults

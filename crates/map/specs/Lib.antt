@@ -1,0 +1,5 @@
+pub mod Bounded
+pub mod Couplers
+pub mod File
+pub mod Chips
+pub mod Laws
