@@ -1,8 +1,7 @@
 -- A filling is known by how it is spelled.
 use mathlib.Core.Path.{_≡_, refl, sym, ap, subst, _∙_}
-use mathlib.Core.Logic.{_⊎_, inl, inr, ⊎-elim}
-use mathlib.Core.List.{List, [], _∷_, map}
-use Prim.Native.Nat.{ℕ}
+use mathlib.Core.Logic.{_⊎_, ⊎-elim}
+use mathlib.Core.List.{[], _∷_, map}
 use native.Mathlib.Omega.{arith}
 use lib.ListN.{length}
 use Rattle.std.specs.shelf.Lists.{All}
@@ -11,7 +10,7 @@ use Rattle.std.proofs.shelf.Decimals.{same-from-decimal}
 use Rattle.command.specs.declared.Command.{Command}
 use Rattle.command.specs.declared.verb.Verb.{Verb}
 use Rattle.command.specs.Verbs.{nameOf}
-use Rattle.command.specs.Commands.{Part, plain, numeral, parts, spelling, spelled, Held}
+use Rattle.command.specs.Commands.{plain, numeral, parts, spelling, spelled, Held}
 use Rattle.command.specs.Shapes.{Shape, bare, oneWord, oneNumber, twoNumbers, shape, Filling, filled}
 use Rattle.command.specs.Alike.{SaidApart}
 use Rattle.command.proofs.Naming.{same-verb}

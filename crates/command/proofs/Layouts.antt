@@ -1,17 +1,15 @@
 -- A line's words, and the ways to lay it out.
-use mathlib.Core.Path.{_≡_, refl, sym, ap, subst, _∙_}
+use mathlib.Core.Path.{_≡_, sym, ap, subst, _∙_}
 use mathlib.Core.Bool.{true, false}
 use mathlib.Core.List.{List, [], _∷_, _++_}
 use mathlib.Core.Logic.{⊎-elim}
-use Prim.Native.Nat.{ℕ, _<_}
+use Prim.Native.Nat.{ℕ}
 use native.Mathlib.Omega.{arith}
 use lib.Dec.{eqb}
-use lib.ListN.{length}
-use Rattle.std.specs.shelf.Lists.{All}
 use Rattle.std.proofs.shelf.Lists.{append-assoc}
 use Rattle.std.proofs.shelf.Elements.{all-push}
 use Rattle.std.proofs.shelf.Tests.{cond-true, cond-false, cases-bool, eqb-true}
-use Rattle.command.specs.Words.{blank, ended, runs, marked, uncommented, words, Parted}
+use Rattle.command.specs.Words.{blank, runs, uncommented, words, Parted}
 use Rattle.command.specs.Lines.{Word, Line, over, comment, gap, headed, WordsByGaps}
 use Rattle.command.proofs.Splitting.{words-gap, words-word, words-marked, words-nil}
 

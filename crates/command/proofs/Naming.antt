@@ -1,9 +1,8 @@
 -- No two verbs have one name.
-use mathlib.Core.Path.{_≡_, refl, sym, ap, subst, _∙_}
-use mathlib.Core.Bool.{Bool, true, false, cond}
+use mathlib.Core.Path.{_≡_, refl, sym, ap, _∙_}
+use mathlib.Core.Bool.{cond}
 use mathlib.Core.List.{List, [], _∷_}
 use Prim.Native.Nat.{ℕ}
-use Rattle.std.specs.shelf.Lists.{All}
 use Rattle.std.specs.shelf.Text.{sameBytes}
 use Rattle.std.specs.declared.option.Option.{Option}
 use Rattle.std.specs.declared.option.Option.the-variants.{Some, None}
@@ -35,16 +34,3 @@ pub same-verb : (v u : Verb) → nameOf v ≡ nameOf u → v ≡ u
 same-verb v u e =
     let s : _≡_ {A = Option Verb} (Some v) (Some u) = sym (named-name v) ∙ ap (λ w. named w verbs) e ∙ named-name u in
     cc
-
--- what holds of each listed verb holds of each verb
-pub of-each : (P : Verb → Type 0) → All P verbs → (v : Verb) → P v
-of-each P a Grid = a .0
-of-each P a Map = a .1 .0
-of-each P a Table = a .1 .1 .0
-of-each P a Tape = a .1 .1 .1 .0
-of-each P a Out = a .1 .1 .1 .1 .0
-of-each P a In = a .1 .1 .1 .1 .1 .0
-of-each P a Cnot = a .1 .1 .1 .1 .1 .1 .0
-of-each P a Words = a .1 .1 .1 .1 .1 .1 .1 .0
-of-each P a Serves = a .1 .1 .1 .1 .1 .1 .1 .1 .0
-of-each P a Allowance = a .1 .1 .1 .1 .1 .1 .1 .1 .1 .0

@@ -15,8 +15,8 @@ use Rattle.command.specs.declared.Command.the-variants.{Nothing, Grid, Map, Ta
 use Rattle.command.specs.declared.verb.Verb.{Verb}
 use Rattle.command.specs.declared.verb.Verb.the-variants as verb
 use Rattle.command.specs.Verbs.{nameOf}
-use Rattle.command.specs.Commands.{Part, plain, numeral, parts, spelling, spelled, Held, Says, SaysNone}
-use Rattle.command.specs.Shapes.{Shape, bare, shape, Filling, filled, Fills, Unfilled}
+use Rattle.command.specs.Commands.{plain, parts, spelling, Held, Says, SaysNone}
+use Rattle.command.specs.Shapes.{bare, shape, Filling, filled, Fills, Unfilled}
 use Rattle.command.proofs.Naming.{same-verb}
 
 -- a command's verb and filling

@@ -1,6 +1,5 @@
 // What stands behind a command's name.
 ghost use mathlib.Core.Path.{_≡_};
-ghost use mathlib.Core.List.{[]};
 ghost use Rattle.std.specs.Options.{Cases as BySome};
 ghost use Rattle.command.specs.Shapes.{bare, oneWord, oneNumber, twoNumbers, Fills, Unfilled};
 ghost use Rattle.command.specs.Words.{words};

@@ -1,0 +1,2 @@
+// What the console does with a command: the chip and the machine that a script has set up, and the answers.
+pub mod refusal;
