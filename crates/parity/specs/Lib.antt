@@ -1,1 +1,6 @@
 pub mod Words
+pub mod Sets
+pub mod Gates
+pub mod Entries
+pub mod Placements
+pub mod Laws
