@@ -2,20 +2,88 @@
 use Prim.Native.Nat.{ℕ, _+_, _-_, _*_, _^_, _≤_, _<_}
 use mathlib.Core.Path.{_≡_, refl, sym, ap, _∙_, subst}
 use mathlib.Core.Logic.{_≢_, _⊎_, inl, inr}
-use mathlib.Core.List.{List}
+use mathlib.Core.List.{List, [], _∷_}
 use native.Mathlib.Omega.{arith}
-use lib.ListN.{length, getD, take, drop}
+use lib.ListN.{length, getD, set, take, drop}
+use lib.Bits.{bitXor}
+use Rattle.std.proofs.shelf.Lists.{take-set, take-set-le, drop-set-lt}
 use Rattle.std.proofs.shelf.Tests.{cases-eq}
-use Rattle.parity.specs.Words.{Gate}
+use Rattle.parity.specs.Words.{Gate, entry}
 use Rattle.parity.specs.Sets.{bit}
-use Rattle.parity.specs.Gates.{acts, TwoPlaces, Each, Spares}
+use Rattle.parity.specs.Gates.{act, acts, TwoPlaces, Each, Spares}
 use Rattle.parity.specs.Entries.{gates-in}
-use Rattle.parity.proofs.Bits.{zero-one, only-place}
+use Rattle.parity.proofs.Bits.{zero-one, bit-some, only-place, flip-other, flip-off, flip-on}
 use Rattle.parity.proofs.Each.{each-map}
-use Rattle.parity.proofs.Gates.{acts-spare}
-use Rattle.parity.proofs.Entries.{gates-in-none, front-kept, back-kept, acts-more, each-more}
+use Rattle.parity.proofs.Gates.{act-set, acts-spare}
+use Rattle.parity.proofs.Entries.{gates-in-none, gates-in-set, gates-in-two, front-kept, back-kept, acts-more, each-more}
 use Rattle.islands.specs.Trees.{ParentsFirst, PlacesBelow, Within}
 use Rattle.islands.specs.Moves.{Between, AlongTree, Settled}
+
+-- ---- one place cleared through its neighbour
+
+module _ (u p x k : ℕ) (out : List ℕ) where
+  -- u is not in the set: no gate
+  pub settled-none : bit x u ≡ 0 → Settled u p x x out out k k
+  settled-none z =
+      let none = gates-in-none out k in
+      record {
+        wrote = record { forward = omega arith; few = omega arith; front = refl; back = refl };
+        acted = ap (λ (gs : List Gate). acts gs x) none;
+        between = subst (Each (Between u p)) (sym none) tt;
+        spares-the-others = λ q _ _. subst (Each (Spares q)) (sym none) tt;
+        cleared = z;
+        others-unchanged = λ q _ _. refl;
+        not-emptied = λ h. h;
+      }
+
+  -- both are in the set: u is flipped by p
+  pub settled-one : u ≢ p → p < 64 → k < length out → bit x u ≡ 1 → bit x p ≡ 1
+      → Settled u p x (bitXor x (2 ^ u)) out (set out k (entry (u, p))) k (k + 1)
+  settled-one ne bp l hu hp =
+      let e = entry (u, p) in
+      let one : gates-in (set out k e) k (k + 1) ≡ (u, p) ∷ [] = gates-in-set out k e (u, p) l bp refl in
+      record {
+        wrote = record {
+          forward = omega arith;
+          few = omega arith;
+          front = take-set out k e;
+          back = drop-set-lt (k + 1) out k e (omega arith);
+        };
+        acted = ap (λ (gs : List Gate). acts gs x) one ∙ act-set u p x hp;
+        between = subst (Each (Between u p)) (sym one) (inl refl, tt);
+        spares-the-others = λ q a _. subst (Each (Spares q)) (sym one) ((λ s. a (sym s)), tt);
+        cleared = flip-off x u hu;
+        others-unchanged = λ q a _. flip-other x u q a;
+        not-emptied = λ _. bit-some (bitXor x (2 ^ u)) p (flip-other x u p (λ s. ne (sym s)) ∙ hp);
+      }
+
+  -- u alone is in the set: p is flipped by u first
+  pub settled-two : u ≢ p → u < 64 → p < 64 → k + 1 < length out → bit x u ≡ 1 → bit x p ≡ 0
+      → Settled u p x (bitXor (bitXor x (2 ^ p)) (2 ^ u)) out (set (set out k (entry (p, u))) (k + 1) (entry (u, p))) k (k + 2)
+  settled-two ne bu bp l hu hp =
+      let e = entry (p, u) in
+      let f = entry (u, p) in
+      let y = bitXor x (2 ^ p) in
+      let yp : bit y p ≡ 1 = flip-on x p hp in
+      let yu : bit y u ≡ 1 = flip-other x p u ne ∙ hu in
+      let two : gates-in (set (set out k e) (k + 1) f) k (k + 2) ≡ (p, u) ∷ (u, p) ∷ [] =
+      gates-in-two out k e f (p, u) (u, p) l bu bp refl refl in
+      record {
+        wrote = record {
+          forward = omega arith;
+          few = omega arith;
+          front = take-set-le k (set out k e) (k + 1) f (omega arith) ∙ take-set out k e;
+          back = drop-set-lt (k + 2) (set out k e) (k + 1) f (omega arith) ∙ drop-set-lt (k + 2) out k e (omega arith);
+        };
+        acted = ap (λ (gs : List Gate). acts gs x) two ∙ ap (act (u, p)) (act-set p u x hu) ∙ act-set u p y yp;
+        between = subst (Each (Between u p)) (sym two) (inr refl, (inl refl, tt));
+        spares-the-others = λ q a b. subst (Each (Spares q)) (sym two) ((λ s. zero-one (bit x p) hp (ap (bit x) s ∙ b)), ((λ s. a (sym s)), tt));
+        cleared = flip-off y u yu;
+        others-unchanged = λ q a b. flip-other y u q a ∙ flip-other x p q b;
+        not-emptied = λ _. bit-some (bitXor y (2 ^ u)) p (flip-other y u p (λ s. ne (sym s)) ∙ yp);
+      }
+
+-- ---- gates along a tree
 
 -- the last place is cleared through one before it
 pub within-less : (order : List ℕ) (i j u p x y : ℕ) → 0 < i → getD order i 0 ≡ u → j < i → getD order j 0 ≡ p

@@ -6,15 +6,15 @@ use mathlib.Core.List.{List}
 use native.Mathlib.Nat.{zero-lt-suc, not-suc-le-zero}
 use native.Mathlib.Omega.{arith}
 use lib.ListN.{length, getD, set}
-use lib.Bits.{bitXor, xor-lt}
+use lib.Bits.{bitAnd, bitXor, xor-lt}
 use lib.Pow.{pow-lt}
 use lib.Count.{ones, ones-le}
 use Rattle.std.proofs.shelf.Lists.{getD-set-same, getD-set-other}
 use Rattle.std.proofs.shelf.Tests.{cases-lt}
 use Rattle.parity.specs.Sets.{bit}
 use Rattle.parity.proofs.Bits.{zero-one, bit-pow-same, place-is, place-below, flip-other, flip-on, flip-cases}
+use Rattle.parity.proofs.Masks.{and-parts}
 use Rattle.parity.proofs.Counts.{ones-flip, ones-pow, ones-within}
-use Rattle.islands.specs.Graphs.{Reach}
 use Rattle.islands.specs.Trees.{Child, TreeOrder, Within}
 use Rattle.islands.proofs.Reached.{reach-closed}
 
@@ -79,18 +79,30 @@ growing-skip {adj} {live} {root} {order} {parent} {seen} {n} {head} g all =
 
 -- ---- one place more
 
--- there is room for a place that is not seen
+-- r is a live neighbour of u that is not seen
+pub record Next (adj : List ℕ) (live seen u r : ℕ) : Type 0 where
+  pub edge : bit (getD adj u 0) r ≡ 1
+  pub alive : bit live r ≡ 1
+  pub unseen : bit seen r ≡ 0
+  pub below : r < length adj
+
+pub next-place : (adj : List ℕ) (live seen u r : ℕ) → live < 2 ^ length adj
+    → (bit (bitAnd (getD adj u 0) live) r ≡ 1) × (bit seen r ≡ 0) → Next adj live seen u r
+next-place adj live seen u r low got =
+    let two = and-parts (getD adj u 0) live r (got .0) in
+    record { edge = two .0; alive = two .1; unseen = got .1; below = place-below (length adj) live r low (two .1) }
+
+-- there is room for it
 pub growing-room : {adj : List ℕ} {live root : ℕ} {order parent : List ℕ} {seen n head : ℕ} → Growing adj live root order parent seen n head
-    → (r : ℕ) → r < length adj → bit seen r ≡ 0 → n < length adj
-growing-room {adj} {seen = seen} {n = n} g r lt z =
-    let f : ones (bitXor seen (2 ^ r)) ≡ ones seen + 1 = ones-flip r seen z in
-    let b : ones (bitXor seen (2 ^ r)) ≤ length adj = ones-le (length adj) (bitXor seen (2 ^ r)) (xor-lt (length adj) seen (2 ^ r) (g .low) (pow-lt lt)) in
+    → {u r : ℕ} → Next adj live seen u r → n < length adj
+growing-room {adj} {seen = seen} {n = n} g {r = r} next =
+    let f : ones (bitXor seen (2 ^ r)) ≡ ones seen + 1 = ones-flip r seen (next .unseen) in
+    let b : ones (bitXor seen (2 ^ r)) ≤ length adj = ones-le (length adj) (bitXor seen (2 ^ r)) (xor-lt (length adj) seen (2 ^ r) (g .low) (pow-lt (next .below))) in
     let c : ones seen ≡ n = g .counted in
     omega arith
 
 module _ {adj : List ℕ} {live root : ℕ} {order parent : List ℕ} {seen n head : ℕ} (g : Growing adj live root order parent seen n head)
-    (r : ℕ) (hn : head < n) (ho : n < length order) (hp : r < length parent) (hr : r < length adj)
-    (z : bit seen r ≡ 0) (edge : bit (getD adj (getD order head 0) 0) r ≡ 1) (alive : bit live r ≡ 1) where
+    {r : ℕ} (next : Next adj live seen (getD order head 0) r) (hn : head < n) (ho : n < length order) (hp : r < length parent) where
   old : (i : ℕ) → i < n → getD (set order n r) i 0 ≡ getD order i 0
   old i h = let ne : i ≢ n = λ e. (omega arith) in getD-set-other order n i r 0 ne
 
@@ -98,10 +110,10 @@ module _ {adj : List ℕ} {live root : ℕ} {order parent : List ℕ} {seen n he
   new = getD-set-same order n r 0 ho
 
   other : (i : ℕ) → i < n → getD order i 0 ≢ r
-  other i h e = zero-one (bit seen r) z (ap (bit seen) (sym e) ∙ g .listed i h)
+  other i h e = zero-one (bit seen r) (next .unseen) (ap (bit seen) (sym e) ∙ g .listed i h)
 
   kept : (q : ℕ) → bit seen q ≡ 1 → bit (bitXor seen (2 ^ r)) q ≡ 1
-  kept q o = flip-other seen r q (λ e. zero-one (bit seen r) z (ap (bit seen) (sym e) ∙ o)) ∙ o
+  kept q o = flip-other seen r q (λ e. zero-one (bit seen r) (next .unseen) (ap (bit seen) (sym e) ∙ o)) ∙ o
 
   up-same : (u : ℕ) → u ≢ r → getD (set parent r (getD order head 0)) u 0 ≡ getD parent u 0
   up-same u ne = getD-set-other parent r u (getD order head 0) 0 ne
@@ -125,8 +137,8 @@ module _ {adj : List ℕ} {live root : ℕ} {order parent : List ℕ} {seen n he
   child-new =
       record {
         up = (head, hn, old head hn ∙ sym up-new);
-        edge = ap (λ (p : ℕ). bit (getD adj p 0) r) up-new ∙ edge;
-        alive = alive;
+        edge = ap (λ (p : ℕ). bit (getD adj p 0) r) up-new ∙ next .edge;
+        alive = next .alive;
       }
 
   pub growing-add : Growing adj live root (set order n r) (set parent r (getD order head 0)) (bitXor seen (2 ^ r)) (n + 1) head
@@ -134,11 +146,11 @@ module _ {adj : List ℕ} {live root : ℕ} {order parent : List ℕ} {seen n he
       record {
         some = omega arith;
         first = old 0 (g .some) ∙ g .first;
-        counted = ones-flip r seen z ∙ ap (λ (m : ℕ). m + 1) (g .counted);
-        low = xor-lt (length adj) seen (2 ^ r) (g .low) (pow-lt hr);
+        counted = ones-flip r seen (next .unseen) ∙ ap (λ (m : ℕ). m + 1) (g .counted);
+        low = xor-lt (length adj) seen (2 ^ r) (g .low) (pow-lt (next .below));
         listed = λ i h. elim (split i h) [
           | inl l ↦ ap (bit (bitXor seen (2 ^ r))) (old i l) ∙ kept (getD order i 0) (g .listed i l)
-          | inr e ↦ ap (λ (m : ℕ). bit (bitXor seen (2 ^ r)) (getD (set order n r) m 0)) e ∙ ap (bit (bitXor seen (2 ^ r))) new ∙ flip-on seen r z
+          | inr e ↦ ap (λ (m : ℕ). bit (bitXor seen (2 ^ r)) (getD (set order n r) m 0)) e ∙ ap (bit (bitXor seen (2 ^ r))) new ∙ flip-on seen r (next .unseen)
         ];
         within = λ q o. elim (flip-cases seen r q o) [
           | inl e ↦ (n, omega arith, new ∙ sym e)

@@ -12,7 +12,7 @@ use Rattle.parity.specs.Words.{Gate}
 use Rattle.parity.specs.Sets.{bit}
 use Rattle.parity.proofs.Bits.{flip-other}
 use Rattle.islands.specs.Graphs.{Reach, here, there, OnEdge, OnIsland}
-use Rattle.islands.specs.Trees.{Child, TreeOrder, ParentsFirst, PlacesBelow, Within}
+use Rattle.islands.specs.Trees.{TreeOrder, ParentsFirst, PlacesBelow, Within}
 use Rattle.islands.specs.Moves.{Between, AlongTree}
 use Rattle.islands.specs.Laws.{LastPlaceCanGo}
 

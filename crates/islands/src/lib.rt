@@ -4,8 +4,9 @@ ghost use mathlib.Core.Logic.{_≢_};
 ghost use mathlib.Core.List.{List};
 ghost use Prim.Native.Nat.{ℕ, _+_, _-_, _*_, _^_, _<_, _≤_};
 ghost use lib.Count.{ones};
-ghost use lib.ListN.{length, getD};
-ghost use Rattle.parity.specs.Words.{replay};
+ghost use lib.Bits.{bitAnd, bitOr};
+ghost use lib.ListN.{length, getD, set};
+ghost use Rattle.parity.specs.Words.{entry, replay};
 ghost use Rattle.parity.specs.Sets.{bit, xor-over};
 ghost use Rattle.parity.specs.Gates.{acts, TwoPlaces, Each, Spares};
 ghost use Rattle.parity.specs.Entries.{gates-in, Wrote};
@@ -13,8 +14,12 @@ ghost use Rattle.islands.specs.Graphs.{Reach, OnEdge, OnIsland};
 ghost use Rattle.islands.specs.Trees.{TreeOrder, ParentsFirst, PlacesBelow, Within};
 ghost use Rattle.islands.specs.Moves.{AlongTree, Settled};
 ghost use Rattle.islands.specs.Laws.{LastPlaceCanGo};
-
-use parity::sets::{entry_of, flip, has, lowest, single, without};
+use parity::sets::entry_of;
+use parity::sets::flip;
+use parity::sets::has;
+use parity::sets::lowest;
+use parity::sets::single;
+use parity::sets::without;
 
 // The island of start: the places that are reached from it by steps to places of live.
 pub fn island_of(adj: &[u64], live: u64, start: usize) -> u64
@@ -31,14 +36,27 @@ pub fn island_of(adj: &[u64], live: u64, start: usize) -> u64
             return seen;
         }
         let q = lowest(todo);
-        seen |= adj[q] & live;
+        seen = with_live(seen, adj[q], live);
         done ^= single(q);
     }
 }
 
+// What is seen, and the live ones of some neighbours.
+fn with_live(seen: u64, neighbours: u64, live: u64) -> u64
+    ensures { λ r. ⌜ r ≡ bitOr seen (bitAnd neighbours live) ⌝ }
+{
+    seen | (neighbours & live)
+}
+
 // Writes the island of root as a tree, breadth first: its places into order, the root first, and the parent
 // of each other place into parent. Returns how many places there are.
-pub fn tree_order(adj: &[u64], live: u64, root: usize, order: &mut [usize], parent: &mut [usize]) -> usize
+pub fn tree_order(
+    adj: &[u64],
+    live: u64,
+    root: usize,
+    order: &mut [usize],
+    parent: &mut [usize],
+) -> usize
     requires small { ⌜ length (now adj) ≤ 64 ⌝ }
     requires inside { ⌜ root < length (now adj) ⌝ ∗ ⌜ live < 2 ^ length (now adj) ⌝ }
     requires room { ⌜ length (now adj) ≤ length (now order) ⌝ ∗ ⌜ length (now adj) ≤ length (now parent) ⌝ }
@@ -58,12 +76,21 @@ pub fn tree_order(adj: &[u64], live: u64, root: usize, order: &mut [usize], pare
         } else {
             let r = lowest(fresh);
             seen ^= single(r);
-            parent[r] = q;
-            order[n] = r;
+            hang(order, parent, n, r, q);
             n += 1;
         }
     }
     n
+}
+
+// Puts the place r at n in the order, with q for its parent.
+fn hang(order: &mut [usize], parent: &mut [usize], n: usize, r: usize, q: usize)
+    requires room { ⌜ n < length (now order) ⌝ ∗ ⌜ r < length (now parent) ⌝ }
+    ensures placed { λ _. ⌜ now (order .exit) ≡ set (now (order .entry)) n r ⌝ }
+    ensures below_its_parent { λ _. ⌜ now (parent .exit) ≡ set (now (parent .entry)) r q ⌝ }
+{
+    order[n] = r;
+    parent[r] = q;
 }
 
 // Without the last place of a tree order the rest of the island still hangs together.
@@ -85,13 +112,22 @@ fn settle(u: usize, p: usize, x: u64, out: &mut [u16], k: usize) -> (u64, usize)
         return (x, k);
     }
     if has(x, p) {
-        out[k] = entry_of(u, p);
+        write_gate(out, k, u, p);
         (flip(x, u), k + 1)
     } else {
-        out[k] = entry_of(p, u);
-        out[k + 1] = entry_of(u, p);
+        write_gate(out, k, p, u);
+        write_gate(out, k + 1, u, p);
         (flip(flip(x, p), u), k + 2)
     }
+}
+
+// Writes the gate with control c and target t as entry k of out.
+fn write_gate(out: &mut [u16], k: usize, c: usize, t: usize)
+    requires room { ⌜ k < length (now out) ⌝ }
+    requires places { ⌜ c < 64 ⌝ ∗ ⌜ t < 64 ⌝ }
+    ensures { λ _. ⌜ now (out .exit) ≡ set (now (out .entry)) k (entry (c, t)) ⌝ }
+{
+    out[k] = entry_of(c, t);
 }
 
 // Gathers the set `word` into the root of a tree, from the last place of the order up.

@@ -1,8 +1,8 @@
 -- The bits of words.
-use Prim.Native.Nat.{ℕ, zero, suc, _+_, _*_, _/_, _%_, _^_, _≤_, _<_}
-use mathlib.Core.Path.{_≡_, refl, sym, ap, ap₂, _∙_, subst}
+use Prim.Native.Nat.{ℕ, zero, suc, _/_, _%_, _^_, _≤_, _<_}
+use mathlib.Core.Path.{_≡_, refl, sym, ap, _∙_, subst}
 use mathlib.Core.Logic.{_≢_, _⊎_, inl, inr}
-use native.Mathlib.Nat.{mod-lt, div-one, pow-suc, mul-mod-left, mul-div-cancel, not-suc-le-zero, le-of-suc-le-suc, zero-lt-suc, div-eq-of-lt, div-lt-iff-lt-mul, lt-of-lt-of-le, one-mul}
+use native.Mathlib.Nat.{mod-lt, div-one, pow-suc, mul-mod-left, mul-div-cancel, not-suc-le-zero, le-of-suc-le-suc, zero-lt-suc, div-eq-of-lt, div-lt-iff-lt-mul, lt-of-lt-of-le}
 use native.Mathlib.Numerals.{one-add}
 use native.Mathlib.Omega.{arith}
 use lib.Arith.{bin-ind}

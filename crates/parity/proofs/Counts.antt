@@ -1,7 +1,7 @@
 -- How many places a set has.
-use Prim.Native.Nat.{ℕ, zero, suc, _+_, _-_, _*_, _/_, _%_, _^_, _≤_, zero-le, _<_}
+use Prim.Native.Nat.{ℕ, zero, suc, _+_, _/_, _%_, _^_, _≤_, zero-le, _<_}
 use mathlib.Core.Path.{_≡_, refl, sym, ap, ap₂, _∙_, subst}
-use mathlib.Core.Logic.{_≢_, _⊎_, inl, inr}
+use mathlib.Core.Logic.{_≢_, inl, inr}
 use native.Mathlib.Nat.{mod-lt, add-assoc, pow-suc, div-lt-iff-lt-mul, one-mul}
 use native.Mathlib.Omega.{arith}
 use lib.Arith.{lt-one}

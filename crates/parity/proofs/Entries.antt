@@ -1,5 +1,5 @@
 -- The gates that stand in a buffer of entries.
-use Prim.Native.Nat.{ℕ, _+_, _-_, _*_, _≤_, _<_}
+use Prim.Native.Nat.{ℕ, _+_, _-_, _≤_, _<_}
 use mathlib.Core.Path.{_≡_, refl, sym, ap, ap₂, _∙_, subst}
 use mathlib.Core.List.{List, [], _∷_, _++_, map}
 use native.Mathlib.Nat.{sub-self}
@@ -9,7 +9,7 @@ use lib.Seq.{take-add}
 use Rattle.std.proofs.shelf.Lists.{map-append, drop-append-le, length-take-le, drop-more, getD-set-same, length-set, take-set, take-take, drop-drop, getD-drop}
 use Rattle.std.proofs.shelf.Parts.{between-is}
 use Rattle.parity.specs.Words.{Gate, entry, gateOf}
-use Rattle.parity.specs.Gates.{act, acts, Each}
+use Rattle.parity.specs.Gates.{acts, Each}
 use Rattle.parity.specs.Entries.{gates-in}
 use Rattle.parity.proofs.Words.{rereads}
 use Rattle.parity.proofs.Each.{each-append, each-parts}

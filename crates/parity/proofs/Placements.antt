@@ -1,6 +1,6 @@
 -- Sets of wires as sets of places.
-use Prim.Native.Nat.{ℕ, zero, suc, _+_, _/_, _%_, _^_, _≤_, _<_}
-use mathlib.Core.Path.{_≡_, refl, sym, ap, ap₂, _∙_, subst}
+use Prim.Native.Nat.{ℕ, zero, suc, _/_, _%_, _^_, _<_}
+use mathlib.Core.Path.{_≡_, sym, ap, ap₂, _∙_, subst}
 use mathlib.Core.Logic.{_≢_, _⊎_, inl, inr}
 use mathlib.Core.List.{List, [], _∷_, map}
 use native.Mathlib.Nat.{not-suc-le-zero, le-of-suc-le-suc, mod-lt}
@@ -10,7 +10,7 @@ use lib.Pow.{pow-lt, pow-pos}
 use lib.Bits.{bitXor, xor-zero-r}
 use Rattle.std.proofs.shelf.Tests.{cases-eq}
 use Rattle.parity.specs.Sets.{bit, when, xor-over}
-use Rattle.parity.specs.Placements.{Placement, places-of, PlaceOf, PlacesExactly}
+use Rattle.parity.specs.Placements.{places-of, PlaceOf, PlacesExactly}
 use Rattle.parity.proofs.Words.{Below}
 use Rattle.parity.proofs.Bits.{two-pos, bit-zero, bit-suc, bit-none, bit-xor, bit-pow-same, bit-pow-other, digit-cases, bit-when, when-zero}
 use Rattle.parity.proofs.Xors.{xor-over-none, xor-over-xor, xor-over-one, xor-over-when, xor-over-below}

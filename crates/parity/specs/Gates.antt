@@ -1,5 +1,4 @@
 -- What gates do to sets of places, and what may be asked of a list of gates.
-use mathlib.Core.Path.{_≡_}
 use mathlib.Core.Logic.{_≢_}
 use mathlib.Core.List.{List, [], _∷_}
 use Prim.Native.Nat.{ℕ, _^_, _<_}

@@ -78,5 +78,9 @@ pub fn entry_of(c: usize, t: usize) -> u16
     ensures past_control { λ r. ⌜ (64 ≤ c → r ≡ 0) ⌝ }
     ensures past_target { λ r. ⌜ (64 ≤ t → r ≡ 0) ⌝ }
 {
-    if c < 64 && t < 64 { (64 * c + t) as u16 } else { 0 }
+    if c < 64 && t < 64 {
+        (64 * c + t) as u16
+    } else {
+        0
+    }
 }

@@ -6,7 +6,7 @@ use native.Mathlib.Omega.{arith}
 use lib.Dec.{lit<}
 use lib.ListN.{length, getD}
 use lib.Pow.{pow-lt, pow-pos}
-use lib.Bits.{bitAnd, bitXor, or-lt, xor-lt, and-le-r}
+use lib.Bits.{bitAnd, bitOr, bitXor, or-lt, xor-lt, and-le-r}
 use Rattle.parity.specs.Sets.{bit}
 use Rattle.parity.proofs.Bits.{zero-one, bit-none, bit-pow-same, place-below, place-is, flip-cases, set-unless}
 use Rattle.parity.proofs.Masks.{or-cases, or-in-l, or-in-r, and-in, and-parts, flip-up}
@@ -67,16 +67,19 @@ walk-again c =
     let inv = c .walk .inv in
     let more = bitAnd (getD adj q 0) live in
     let low = c .lowest-q .ensures .below (c .if-todo-eq0 .left) in
-    let e : bitXor d (c .single-done .result) ≡ bitXor d (2 ^ q) = ap (bitXor d) (c .single-done .ensures .place low) in (
-      or-lt (length adj) seen more (inv .0) (lt-of-le-of-lt (and-le-r (getD adj q 0) live) (c .pre .inside .1)),
-      or-in-l seen more (c .args .start) (inv .1),
-      λ r o. elim (or-cases seen more r o) [
+    let grown : c .with-live-seen .result ≡ bitOr seen more = c .with-live-seen .ensures in
+    let e : bitXor d (c .single-done .result) ≡ bitXor d (2 ^ q) = ap (bitXor d) (c .single-done .ensures .place low) in
+    let kept : (r : ℕ) → bit seen r ≡ 1 → bit (c .with-live-seen .result) r ≡ 1 = λ r o. ap (λ z. bit z r) grown ∙ or-in-l seen more r o in (
+      subst (λ (x : ℕ). x < 2 ^ length adj) (sym grown)
+          (or-lt (length adj) seen more (inv .0) (lt-of-le-of-lt (and-le-r (getD adj q 0) live) (c .pre .inside .1))),
+      kept (c .args .start) (inv .1),
+      λ r o. elim (or-cases seen more r (ap (λ z. bit z r) (sym grown) ∙ o)) [
         | inl a ↦ inv .2 r a
         | inr a ↦ let p = and-parts (getD adj q 0) live r a in there (inv .2 q (picked c .0)) (p .0) (p .1)
       ],
       subst (λ (x : ℕ). x < 2 ^ 64) (sym e) (xor-lt 64 d (2 ^ q) (inv .3) (pow-lt low)),
       λ a r o x y. elim (flip-cases d q a (ap (λ z. bit z a) (sym e) ∙ o)) [
-        | inl s ↦ or-in-r seen more r (and-in (getD adj q 0) live r (ap (λ z. bit (getD adj z 0) r) (sym s) ∙ x) y)
-        | inr s ↦ or-in-l seen more r (inv .4 a r s x y)
+        | inl s ↦ ap (λ z. bit z r) grown ∙ or-in-r seen more r (and-in (getD adj q 0) live r (ap (λ z. bit (getD adj z 0) r) (sym s) ∙ x) y)
+        | inr s ↦ kept r (inv .4 a r s x y)
       ],
     )
