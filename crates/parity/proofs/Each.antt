@@ -4,7 +4,8 @@ use mathlib.Core.List.{List, [], _∷_, _++_, reverse, reverse-cons}
 use Prim.Native.Nat.{ℕ, _≤_, _<_}
 use native.Mathlib.Omega.{arith}
 use Rattle.parity.specs.Words.{Gate}
-use Rattle.parity.specs.Gates.{Each, TwoPlaces, turned}
+use Rattle.parity.specs.Gates.{Each, TwoPlaces}
+use Rattle.parity.specs.Pairing.{turned}
 
 pub each-append : (P : Gate → Type 0) (gs hs : List Gate) → Each P gs → Each P hs → Each P (gs ++ hs)
 each-append P [] hs a b = b

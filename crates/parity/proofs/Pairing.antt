@@ -9,9 +9,9 @@ use lib.Arith.{bin-ind}
 use lib.Bits.{bitXor, bitAnd, xor-shr, xor-mod, and-shr, and-mod, and-comm, and-mask, xor-zero-r}
 use lib.Count.{ones, ones-step}
 use Rattle.parity.specs.Words.{Gate}
-use Rattle.parity.specs.Sets.{bit, when, dot}
-use Rattle.parity.specs.Gates.{act, acts, Each, Spares, turned}
-use Rattle.parity.specs.Laws.{PairingSurvivesGate, PairingSurvivesGates}
+use Rattle.parity.specs.Sets.{bit, when}
+use Rattle.parity.specs.Gates.{act, acts, Each, Spares}
+use Rattle.parity.specs.Pairing.{dot, turned, PairingSurvivesGate, PairingSurvivesGates}
 use Rattle.parity.proofs.Bits.{two-pos, bit-lt, bit-zero, bit-suc, bit-and, bit-cases, bits-tell-words-apart, bit-pow-other, pow-even, pow-half, xor-cancel-r, xor-swap, digit-cases}
 use Rattle.parity.proofs.Masks.{and-xor}
 use Rattle.parity.proofs.Counts.{ones-none}

@@ -29,8 +29,3 @@ Each P (g ∷ gs) = P g × Each P gs
 -- the gate does not flip place q of any set
 abbrev pub Spares : ℕ → Gate → Type 0
 Spares q g = g .0 ≢ q
-
--- the gates with control and target exchanged
-abbrev pub turned : List Gate → List Gate
-turned [] = []
-turned (g ∷ gs) = (g .1, g .0) ∷ turned gs

@@ -6,8 +6,8 @@ use Prim.Native.Nat.{ℕ, _^_, _<_}
 use lib.ListN.{length, getD}
 use lib.Bits.{bitAnd}
 use Rattle.parity.specs.Words.{fresh, Gate, cnot, replay}
-use Rattle.parity.specs.Sets.{bit, xor-over, dot}
-use Rattle.parity.specs.Gates.{act, acts, TwoPlaces, Each, turned}
+use Rattle.parity.specs.Sets.{bit, xor-over}
+use Rattle.parity.specs.Gates.{act, acts, TwoPlaces, Each}
 
 -- the exclusive or over a set stays, if the set goes along
 abbrev pub XorsSurviveGate : Type 0
@@ -46,13 +46,6 @@ XorsTellSetsApart = (n : ℕ) (gs : List Gate) (x y : ℕ) → Each (TwoPlaces n
 -- words with the same bits are the same
 abbrev pub BitsTellWordsApart : Type 0
 BitsTellWordsApart = (y x : ℕ) → ((q : ℕ) → bit x q ≡ bit y q) → x ≡ y
-
--- the pairing stays, if the other set goes along the other way round
-abbrev pub PairingSurvivesGate : Type 0
-PairingSurvivesGate = (c t x y : ℕ) → c ≢ t → dot (act (c, t) x) (act (t, c) y) ≡ dot x y
-
-abbrev pub PairingSurvivesGates : Type 0
-PairingSurvivesGates = (n : ℕ) (gs : List Gate) (x y : ℕ) → Each (TwoPlaces n) gs → dot (acts gs x) (acts (turned gs) y) ≡ dot x y
 
 -- a set that has a place of I has one after a gate whose target is in I
 abbrev pub MeetingSurvivesGate : Type 0

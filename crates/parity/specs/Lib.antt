@@ -3,4 +3,5 @@ pub mod Sets
 pub mod Gates
 pub mod Entries
 pub mod Placements
+pub mod Pairing
 pub mod Laws

@@ -1,8 +1,7 @@
 -- A word as a set of places: place q is in it where bit q is 1.
 use mathlib.Core.List.{List, [], _∷_}
 use Prim.Native.Nat.{ℕ, zero, suc, _/_, _%_, _^_}
-use lib.Bits.{bitXor, bitAnd}
-use lib.Count.{ones}
+use lib.Bits.{bitXor}
 
 -- the bit of x at place q: 0 or 1
 unfoldable pub bit : ℕ → ℕ → ℕ
@@ -17,7 +16,3 @@ when (suc d) s = s
 abbrev pub xor-over : List ℕ → ℕ → ℕ
 xor-over [] x = zero
 xor-over (w ∷ ws) x = bitXor (when (x % 2) w) (xor-over ws (x / 2))
-
--- The pairing of two sets: 1 where they share an odd number of places, and 0 where an even number.
-abbrev pub dot : ℕ → ℕ → ℕ
-dot x y = ones (bitAnd x y) % 2

@@ -2,7 +2,8 @@
 ghost use Rattle.parity.specs.Laws.{XorsSurviveGate, XorsSurviveGates, SinglePlacesDeliver};
 ghost use Rattle.parity.specs.Laws.{GateUndoesItself, ReverseUndoesOnSets, ReverseUndoesOnWords};
 ghost use Rattle.parity.specs.Laws.{SetsStayApart, FreshXorsAreSets, XorsTellSetsApart, BitsTellWordsApart};
-ghost use Rattle.parity.specs.Laws.{PairingSurvivesGate, PairingSurvivesGates, MeetingSurvivesGate};
+ghost use Rattle.parity.specs.Laws.{MeetingSurvivesGate};
+ghost use Rattle.parity.specs.Pairing.{PairingSurvivesGate, PairingSurvivesGates};
 ghost use Rattle.parity.specs.Placements.{PlacesExactly};
 
 // Gates that turn a set into a single place deliver the exclusive or over the set there, from any words.

@@ -5,8 +5,9 @@ ghost use Prim.Native.Nat.{ℕ, _-_, _^_, _<_, _≤_};
 ghost use lib.Bits.{bitXor};
 ghost use lib.Dec.{eqb};
 ghost use Rattle.parity.specs.Words.{entry};
-ghost use Rattle.parity.specs.Sets.{bit, dot};
+ghost use Rattle.parity.specs.Sets.{bit};
 ghost use Rattle.parity.specs.Gates.{act};
+ghost use Rattle.parity.specs.Pairing.{dot};
 
 // Whether place q is in x.
 pub fn has(x: u64, q: usize) -> bool

@@ -52,7 +52,7 @@ returns c =
           (along-tree-two-places order parent (length adj) (parents-first t h) (order-below t h)) gs (e .along-tree);
       on-edges = each-map (AlongTree order parent) (OnEdge adj) (along-tree-on-edge t h) gs (e .along-tree);
       on-island = each-map (AlongTree order parent) (OnIsland adj live root) (along-tree-on-island t h (c .pre .alive)) gs (e .along-tree);
-      spares-root = e .spares-what-only-receives root (λ i i0 l z.
+      spares-root = e .spares-all-but-children root (λ i i0 l z.
           let a = order-at t h i l in
           let b : i ≡ 0 = t .once i 0 (a .0) (t .some) (sym (a .1) ∙ z ∙ sym (t .first)) in omega arith);
       delivers = λ ws k. ap (λ (m : ℕ). getD (replay gs ws) m 0) (sym first)

@@ -34,6 +34,6 @@ returns c =
       wrote = record { forward = g .forward; few = omega arith; front = g .front; back = g .back };
       gathered = gathering-done g end;
       along-tree = g .along-tree;
-      spares-what-only-receives = g .spares;
+      spares-all-but-children = g .spares;
       delivers = λ ws b. single-places-deliver gs ws (c .args .word) (getD order 0 0) (two (length ws) b) (gathering-done g end);
     }
