@@ -1,1 +1,10 @@
 pub mod Words
+pub mod Bits
+pub mod Masks
+pub mod Counts
+pub mod Xors
+pub mod Each
+pub mod Gates
+pub mod Pairing
+pub mod Entries
+pub mod Placements

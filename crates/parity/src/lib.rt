@@ -3,6 +3,9 @@ ghost use mathlib.Core.Path.{_≡_};
 ghost use mathlib.Core.List.{map};
 ghost use Rattle.parity.specs.Words.{fresh, cnot, gateOf, replay, Rereads};
 
+pub mod laws;
+pub mod sets;
+
 // The fresh words of 64 places: place q carries bit q alone.
 pub fn fresh_words() -> [u64; 64]
     ensures { λ r. ⌜ r ≡ fresh 64 ⌝ }

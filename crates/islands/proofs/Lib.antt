@@ -1,0 +1,4 @@
+pub mod Reached
+pub mod Growing
+pub mod Trees
+pub mod Gathering

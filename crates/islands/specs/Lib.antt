@@ -1,0 +1,4 @@
+pub mod Graphs
+pub mod Trees
+pub mod Moves
+pub mod Laws
