@@ -23,3 +23,7 @@ answered-ok (Some f) a b r e h = absurd (err-ok f b (sym e ∙ h))
 pub answered-err : {F A : Type 0} (o : Option F) (a : A) (f : F) (r : Result A F) → r ≡ answered o a → r ≡ Err f → o ≡ Some f
 answered-err None a f r e h = absurd (ok-err f a (sym e ∙ h))
 answered-err (Some g) a f r e h = let x : _≡_ {A = Result _ _} (Err g) (Err f) = sym e ∙ h in cc
+
+-- a call without a fault is not refused
+pub never-refused : {F A : Type 0} (o : Option F) (a : A) (f : F) (r : Result A F) → o ≡ None → r ≡ answered o a → r ≡ Err f → ⊥
+never-refused o a f r none e h = ok-err f a (sym (e ∙ ap (λ (p : Option _). answered p a) none) ∙ h)

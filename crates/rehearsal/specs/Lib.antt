@@ -1,1 +1,4 @@
 pub mod Refusals
+pub mod Replies
+pub mod Scenes
+pub mod Calls

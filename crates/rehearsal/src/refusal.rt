@@ -47,6 +47,15 @@ pub impl From<AllocError> for Refusal as RefusalFromAlloc {
     }
 }
 
+// Writing to a string fails only for want of memory.
+pub impl From<fmt::Error> for Refusal as RefusalFromFmt {
+    ghost converts = { λ _ r. r ≡ OutOfMemory };
+
+    fn from(_: fmt::Error) -> Refusal {
+        Refusal::NoMemory
+    }
+}
+
 pub impl fmt::Display for Refusal as RefusalDisplay {
     ghost shown = { λ f. Some (refusalText f) };
 
