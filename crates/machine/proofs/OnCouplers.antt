@@ -79,9 +79,10 @@ obeys-on-coupler l s g h = go (ltb (g .0) (l .places) && ltb (g .1) (l .places))
     go false joined e n = absurd (some-none PlaceOutOfRange n)
 
 pub obeys-exactly : ObeysExactly
-obeys-exactly l s g so h =
-    (obeys-on-coupler l s g,
-     λ on. on-coupler-obeys l s g so on ∙ (let e = le-leb 1 (s .allowance) h in rw e refl))
+obeys-exactly l s g so h = (
+  obeys-on-coupler l s g,
+  λ on. on-coupler-obeys l s g so on ∙ (let e = le-leb 1 (s .allowance) h in rw e refl),
+)
 
 ok-err : (r : Result Bool MachineFault) (b : Bool) (f : MachineFault) → r ≡ Ok b → r ≡ Err f → ⊥
 ok-err r b f p q = let z : _≡_ {A = ℕ} 0 1 = cc in omega arith

@@ -37,7 +37,10 @@ pub impl fmt::Display for MachineFault as MachineFaultDisplay {
         match self {
             MachineFault::PlaceOutOfRange => write!(f, "refused 1: no such place"),
             MachineFault::NoSuchCoupler => write!(f, "refused 2: no such coupler"),
-            MachineFault::NotCoupled => write!(f, "refused 3: no coupler in service joins the two places"),
+            MachineFault::NotCoupled => write!(
+                f,
+                "refused 3: no coupler in service joins the two places"
+            ),
             MachineFault::AllowanceExceeded { asked, left } => {
                 let g = *asked;
                 let a = *left;

@@ -2,3 +2,4 @@ pub mod Refusals
 pub mod Replies
 pub mod Scenes
 pub mod Calls
+pub mod Obeying

@@ -7,16 +7,39 @@ use std::fmt;
 #[derive(Drop)]
 pub enum Reply {
     Nothing,
-    Chip { places: usize, couplers: usize },
-    Table { allowance: usize },
-    Tape { allowance: usize },
-    Out { coupler: usize },
-    In { coupler: usize },
-    Cnot { control: usize, target: usize, left: usize },
-    Words { line: String },
-    Serves { coupler: usize },
-    ServesNot { coupler: usize },
-    Allowance { left: usize },
+    Chip {
+        places: usize,
+        couplers: usize,
+    },
+    Table {
+        allowance: usize,
+    },
+    Tape {
+        allowance: usize,
+    },
+    Out {
+        coupler: usize,
+    },
+    In {
+        coupler: usize,
+    },
+    Cnot {
+        control: usize,
+        target: usize,
+        left: usize,
+    },
+    Words {
+        line: String,
+    },
+    Serves {
+        coupler: usize,
+    },
+    ServesNot {
+        coupler: usize,
+    },
+    Allowance {
+        left: usize,
+    },
 }
 
 pub impl fmt::Display for Reply as ReplyDisplay {

@@ -1,3 +1,3 @@
 // The table machine: keeps the word at each place.
-pub mod store;
 pub mod acts;
+pub mod store;

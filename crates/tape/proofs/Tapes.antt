@@ -37,9 +37,9 @@ pub cnot-is : (l : Layout) (entries more : List ℕ) (long : ℕ) (marks : Marks
 cnot-is l entries more long marks c t e h is grown =
     let gate : gateOf e ≡ (c, t) = ap gateOf is ∙ rereads (c, t) h in
     let gates : map gateOf more ≡ map gateOf entries ++ (c, t) ∷ [] =
-          ap (map gateOf) grown ∙ map-append gateOf entries (e ∷ []) ∙ ap (λ (g : Gate). map gateOf entries ++ g ∷ []) gate in
+    ap (map gateOf) grown ∙ map-append gateOf entries (e ∷ []) ∙ ap (λ (g : Gate). map gateOf entries ++ g ∷ []) gate in
     let words : replay (map gateOf more) (fresh (l .places)) ≡ cnot (c, t) (replay (map gateOf entries) (fresh (l .places))) =
-          ap (λ (gs : List Gate). replay gs (fresh (l .places))) gates ∙ replay-append (map gateOf entries) ((c, t) ∷ []) (fresh (l .places)) in
+    ap (λ (gs : List Gate). replay gs (fresh (l .places))) gates ∙ replay-append (map gateOf entries) ((c, t) ∷ []) (fresh (l .places)) in
     let left : long - length more ≡ long - length entries - 1 = let a = ap length grown in let b = length-append entries (e ∷ []) in omega arith in
     ap₂ (λ (w : List ℕ) (a : ℕ). record { service = serviceOf l marks; words = w; allowance = a }) words left
 
@@ -50,7 +50,7 @@ pub word-is : (l : Layout) (entries full part back : List ℕ) (n q : ℕ) → S
 word-is l entries full part back n q so same h is-fresh replayed =
     let front : n - 0 ≡ l .places = omega arith in
     let start : take (n - 0) full ≡ fresh (l .places) =
-          ap₂ (λ (k : ℕ) (ws : List ℕ). take k ws) front is-fresh ∙ take-fresh 64 (l .places) (so .at-most-64) in
+    ap₂ (λ (k : ℕ) (ws : List ℕ). take k ws) front is-fresh ∙ take-fresh 64 (l .places) (so .at-most-64) in
     let words : part ≡ replay (map gateOf entries) (fresh (l .places)) = replayed ∙ ap (replay (map gateOf entries)) start in
     let long : length part ≡ l .places = ap length words ∙ length-replay (map gateOf entries) (fresh (l .places)) ∙ length-fresh (l .places) in
     getD-append-left part back 0 q (omega arith) ∙ ap (λ (ws : List ℕ). getD ws q 0) words

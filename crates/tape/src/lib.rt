@@ -1,3 +1,3 @@
 // The tape machine: keeps the gates alone, on a tape of its own.
-pub mod store;
 pub mod acts;
+pub mod store;

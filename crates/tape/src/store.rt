@@ -1,7 +1,6 @@
 // What the tape machine keeps: the chip, the gates played, how many may be, and a mark for each coupler.
 ghost use Prim.Native.Nat.{_≤_};
 ghost use Rattle.std.specs.Of.Vec.{vec-len, vec-cap};
-
 use machine::marks::Marks;
 
 #[derive(Drop)]

@@ -7,4 +7,4 @@ abbrev pub Inv-loop-e : given.InvT-loop-e
 Inv-loop-e g l =
     (g .M·Chip .layout (l .machine) ≡ g .M·Chip .layout (l .entry .machine))
     × (outcome (g .M·Chip .layout (l .entry .machine)) (g .M·Machine .meaning (l .entry .machine)) (l .entries)
-      ≡ outcome (g .M·Chip .layout (l .entry .machine)) (g .M·Machine .meaning (l .machine)) (drop (l .e-index) (l .entries)))
+    ≡ outcome (g .M·Chip .layout (l .entry .machine)) (g .M·Machine .meaning (l .machine)) (drop (l .e-index) (l .entries)))

@@ -24,13 +24,13 @@ returns g c =
     let a = c .add-word .ensures in
     let t = c .add-word .last .self in
     let moved : tableMeaning (g .C·Chip .layout (t .chip)) (t .words) (t .service) (t .left)
-          ≡ tableMeaning l (set (s .words) (c .args .t) (bitXor (getD (s .words) (c .args .t) 0) (getD (s .words) (c .args .c) 0))) (s .service) (s .left - 1) =
-          cc (a .words, a .left, a .chip, a .service) in
+    ≡ tableMeaning l (set (s .words) (c .args .t) (bitXor (getD (s .words) (c .args .t) 0) (getD (s .words) (c .args .c) 0))) (s .service) (s .left - 1) =
+    cc (a .words, a .left, a .chip, a .service) in
     record {
       answer = sym (ap (λ (o : Option MachineFault). answered o tt) free);
       leaves =
-        moved
-        ∙ cnot-is l (s .words) (s .service) (s .left) (c .args .c) (c .args .t) (ends .from) (ends .to)
-        ∙ sym (ap (λ (o : Option MachineFault). kept o (played was (c .args .c, c .args .t)) was) free);
+          moved
+          ∙ cnot-is l (s .words) (s .service) (s .left) (c .args .c) (c .args .t) (ends .from) (ends .to)
+          ∙ sym (ap (λ (o : Option MachineFault). kept o (played was (c .args .c, c .args .t)) was) free);
       same-chip = ap (g .C·Chip .layout) (a .chip);
     }

@@ -27,13 +27,13 @@ returns g c =
     let a = c .keep .ensures in
     let t = c .keep .last .self in
     let moved : tapeMeaning (g .C·Chip .layout (t .chip)) (vec-items (t .tape)) (t .length) (t .service)
-          ≡ tapeMeaning l (vec-items (s .tape) ++ (64 * c .args .c + c .args .t) ∷ []) (s .length) (s .service) =
-          cc (a .entries, a .length, a .chip, a .service) in
+    ≡ tapeMeaning l (vec-items (s .tape) ++ (64 * c .args .c + c .args .t) ∷ []) (s .length) (s .service) =
+    cc (a .entries, a .length, a .chip, a .service) in
     record {
       answer = sym (ap (λ (o : Option MachineFault). answered o tt) free);
       leaves =
-        moved
-        ∙ cnot-is l (vec-items (s .tape)) _ (s .length) (s .service) (c .args .c) (c .args .t) _ low refl refl
-        ∙ sym (ap (λ (o : Option MachineFault). kept o (played was (c .args .c, c .args .t)) was) free);
+          moved
+          ∙ cnot-is l (vec-items (s .tape)) _ (s .length) (s .service) (c .args .c) (c .args .t) _ low refl refl
+          ∙ sym (ap (λ (o : Option MachineFault). kept o (played was (c .args .c, c .args .t)) was) free);
       same-chip = ap (g .C·Chip .layout) (a .chip);
     }

@@ -12,6 +12,6 @@ returns g c =
     let s = c .args .self .now in
     let full = c .fresh-words-words .result in
     let replayed : c .replay-entries .last .words ≡ replay (map gateOf (vec-items (s .tape))) (take (c .width-n .result - 0) full) =
-          c .replay-entries .ensures ∙ ap (λ (es : List ℕ). replay (map gateOf es) (take (c .width-n .result - 0) full)) (c .entries .ensures) in
+    c .replay-entries .ensures ∙ ap (λ (es : List ℕ). replay (map gateOf es) (take (c .width-n .result - 0) full)) (c .entries .ensures) in
     word-is (g .C·Chip .layout (s .chip)) (vec-items (s .tape)) full (c .replay-entries .last .words) _ (c .width-n .result) (c .args .q)
     (g .C·Chip·met .sound (s .chip)) (c .width-n .ensures) (c .pre) (c .fresh-words-words .ensures) replayed
