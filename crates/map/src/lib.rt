@@ -51,12 +51,8 @@ impl MappedChip {
     pub fn duplicate(&self, heap: Global) -> Result<MappedChip, ChipFault>
         ensures { λ r. ⌜ Cases r (λ c. layoutOf c ≡ layoutOf (now (self .entry))) (λ f. f ≡ OutOfMemory) ⌝ }
     {
-        copied(
-            heap,
-            self.places,
-            self.left.as_slice(),
-            self.right.as_slice(),
-        )
+        let (left, right) = (self.left.as_slice(), self.right.as_slice());
+        copied(heap, self.width(), left, right)
     }
 }
 
