@@ -3,10 +3,10 @@
 use command::Command;
 use command::read;
 use command::verb::MistakeDisplay;
-use rehearsal::obey::obey;
-use rehearsal::refusal::RefusalDisplay;
-use rehearsal::reply::ReplyDisplay;
-use rehearsal::setup::Setup;
+use simulation::obey::obey;
+use simulation::refusal::RefusalDisplay;
+use simulation::reply::ReplyDisplay;
+use simulation::setup::Setup;
 use std::fs;
 use std::io;
 use std::io::BufRead;

@@ -1,3 +1,0 @@
-pub mod Scenes
-pub mod Texts
-pub mod Passing
