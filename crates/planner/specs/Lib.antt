@@ -1,0 +1,5 @@
+pub mod Adjacent
+pub mod Blocks
+pub mod Plans
+pub mod Views
+pub mod Laws
