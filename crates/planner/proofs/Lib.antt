@@ -3,3 +3,4 @@ pub mod Neighbours
 pub mod Carrying
 pub mod Planning
 pub mod Asking
+pub mod Couplers

@@ -192,7 +192,7 @@ rows-show l service rows k so h r = record {
     len : length (take (l .places) rows) ≡ l .places
     len = let a = so .at-most-64 in let w = r .wide in let e = length-take (l .places) rows in omega arith
 
-turned-on : {l : Layout} {service : List Bool} {p q : ℕ} → OnCoupler l service (p, q) → OnCoupler l service (q, p)
+pub turned-on : {l : Layout} {service : List Bool} {p q : ℕ} → OnCoupler l service (p, q) → OnCoupler l service (q, p)
 turned-on {l} {service} {p} {q} s = record {
   coupler = s .coupler;
   joins = record { there = s .joins .there; ends = elim (s .joins .ends) [ inl e ↦ inr e | inr e ↦ inl e ] };
@@ -214,3 +214,34 @@ pub getD-zeros : (n p : ℕ) → _≡_ {A = ℕ} (getD (replicate n 0) p 0) 0
 getD-zeros zero p = refl
 getD-zeros (suc n) zero = refl
 getD-zeros (suc n) (suc p) = getD-zeros n p
+
+-- rows with one coupler more
+next-rows : (l : Layout) (service : List Bool) (k : ℕ) → Sound l → k < length (l .couplers) → (rows : List ℕ) → Rows l service rows k
+    → (b : Bool) → getD service k false ≡ b → (rows′ : List ℕ) × Rows l service rows′ (k + 1)
+next-rows l service k so h rows r false off = (rows, rows-skipped l service rows k (sym (ap (λ (v : Bool). cond v (Some (endsAt l k)) None) off)) r)
+next-rows l service k so h rows r true on =
+    let a = endsAt l k .0 in
+    let b = endsAt l k .1 in
+    let mid = set rows a (bitOr (getD rows a 0) (2 ^ b)) in
+    let left = so .left-below k h in
+    let right = so .right-below k h in
+    let few = so .at-most-64 in
+    let wide = r .wide in (
+      set mid b (bitOr (getD mid b 0) (2 ^ a)),
+      rows-joined l service rows (set mid b (bitOr (getD mid b 0) (2 ^ a))) k a b h (sym (ap (λ (v : Bool). cond v (Some (endsAt l k)) None) on)) r
+          (added rows a b (2 ^ b) (2 ^ a) (omega arith) (omega arith) refl refl),
+    )
+
+all-rows : (l : Layout) (service : List Bool) → Sound l → (k : ℕ) → k ≤ length (l .couplers) → (rows : List ℕ) × Rows l service rows k
+all-rows l service so zero h = (replicate 64 0, no-rows l service (replicate 64 0) refl (getD-zeros 64))
+all-rows l service so (suc k) h =
+    let before = all-rows l service so k (omega arith) in
+    let here = next-rows l service k so h (before .0) (before .1) (getD service k false) refl in
+    let one : k + 1 ≡ suc k = omega arith in
+    (here .0, subst (Rows l service (here .0)) one (here .1))
+
+-- each layout is shown by some rows
+pub shown : (l : Layout) (service : List Bool) → Sound l → (adj : List ℕ) × Shows l service adj
+shown l service so =
+    let r = all-rows l service so (length (l .couplers)) (omega arith) in
+    (take (l .places) (r .0), rows-show l service (r .0) (length (l .couplers)) so (omega arith) (r .1))

@@ -13,7 +13,9 @@ use Rattle.chip.specs.Layout.{Layout, Sound}
 use Rattle.machine.specs.Meaning.{Meaning}
 use Rattle.machine.specs.Calls.{cnotFault}
 use Rattle.machine.specs.OnCoupler.{OnCoupler}
+use Rattle.rounds.specs.Ways.{Way}
 use Rattle.planner.specs.Adjacent.{Shows, CouplerWay}
+use Rattle.planner.specs.Plans.{Reaches}
 
 -- with allowance left, a machine obeys exactly the gates between neighbours
 abbrev pub ObeysNeighbours : Type 0
@@ -32,3 +34,12 @@ pub record OnTwoIslands (l : Layout) (service : List Bool) (x : ℕ) : Type 0 wh
 abbrev pub TwoIslandsStay : Type 0
 TwoIslandsStay = (l : Layout) (service : List Bool) (x : ℕ) (gs : List Gate) → Sound l → OnTwoIslands l service x → Each (OnCoupler l service) gs
     → OnTwoIslands l service (acts gs x)
+
+-- a way between neighbours is a way over couplers in service
+abbrev pub WaysOverCouplers : Type 0
+WaysOverCouplers = (l : Layout) (service : List Bool) (adj : List ℕ) (p q : ℕ) → Shows l service adj → Way adj p q ↔ CouplerWay l service p q
+
+-- gates between neighbours are gates on couplers in service
+abbrev pub PlansOverCouplers : Type 0
+PlansOverCouplers = (l : Layout) (service : List Bool) (adj : List ℕ) (n : ℕ) (block old : List ℕ) (gs : List Gate) (new : List ℕ) → Shows l service adj
+    → Reaches (OnEdge adj) n block old gs new ↔ Reaches (OnCoupler l service) n block old gs new

@@ -25,9 +25,9 @@ dualsOf b = take (b .n) (b .duals)
 abbrev pub placesOf : Places → List ℕ
 placesOf p = take (p .n) (p .at)
 
--- adjacency, block and placement are of one size
-abbrev pub OneSize : Adjacency → Block → Places → Type 0
-OneSize a b p = (b .n ≡ a .n) × (p .n ≡ a .n)
+-- the block and the placement are of n wires
+abbrev pub SizesAre : ℕ → Block → Places → Type 0
+SizesAre n b p = (b .n ≡ n) × (p .n ≡ n)
 
 -- the first k entries are a plan between neighbours
 abbrev pub PlanFor : Adjacency → Block → Places → List ℕ → List ℕ → ℕ → List ℕ → Type 0

@@ -3,6 +3,8 @@ pub mod adjacency;
 pub mod block;
 pub mod carry;
 pub mod fault;
+pub mod island;
+pub mod laws;
 pub mod places;
 pub mod plan;
 pub mod store;

@@ -9,17 +9,20 @@ ghost use Rattle.std.specs.declared.option.Option.the-variants.{Some, None};
 ghost use Rattle.std.specs.declared.result.Result.the-variants.{Ok, Err};
 ghost use Rattle.parity.specs.Placements.{Placement};
 ghost use Rattle.islands.specs.Graphs.{OnEdge};
+ghost use Rattle.machine.specs.OnCoupler.{OnCoupler};
 ghost use Rattle.rounds.specs.Ways.{Graph};
 ghost use Rattle.rounds.specs.Duals.{Paired};
 ghost use Rattle.planner.specs.declared.fault.PlanFault.the-variants.{SizeMismatch, BufferTooShort, Unreachable};
 ghost use Rattle.planner.specs.Plans.{room, NoPlan, PlanIn};
-ghost use Rattle.planner.specs.Views.{placesOf, OneSize, PlanFor, Planless};
+ghost use Rattle.planner.specs.Views.{wordsOf, placesOf, SizesAre, PlanFor, Planless};
 use crate::carry::carry_to_places;
 use crate::carry::lowest_of_each;
 use crate::fault::PlanFault;
 use crate::store::Adjacency;
 use crate::store::Block;
 use crate::store::Places;
+use chip::Chip;
+use machine::Machine;
 
 // A plan: how many gates there are, and where each wire is then.
 #[derive(Drop)]
@@ -37,9 +40,9 @@ pub fn plan(
     out: &mut [u16],
 ) -> Result<Planned, PlanFault>
     ensures planned { λ r. ⌜ ((p : Planned) → r ≡ Ok p → (p .places .n ≡ now (adjacency .entry) .n) × PlanFor (now (adjacency .entry)) (now (block .entry)) (now (places .entry)) (now (out .entry)) (now (out .exit)) (p .gates) (placesOf (p .places))) ⌝ }
-    ensures unreachable_exactly { λ r. ⌜ (r ≡ Err Unreachable) ↔ (OneSize (now (adjacency .entry)) (now (block .entry)) (now (places .entry)) × (room (now (adjacency .entry) .n) ≤ length (now (out .entry))) × Planless (now (adjacency .entry)) (now (block .entry)) (now (places .entry))) ⌝ }
-    ensures short_exactly { λ r. ⌜ ((needed : ℕ) → (r ≡ Err (BufferTooShort needed)) ↔ (OneSize (now (adjacency .entry)) (now (block .entry)) (now (places .entry)) × (length (now (out .entry)) < room (now (adjacency .entry) .n)) × (needed ≡ room (now (adjacency .entry) .n)))) ⌝ }
-    ensures mismatch_exactly { λ r. ⌜ (r ≡ Err SizeMismatch) ↔ (OneSize (now (adjacency .entry)) (now (block .entry)) (now (places .entry)) → ⊥) ⌝ }
+    ensures unreachable_exactly { λ r. ⌜ (r ≡ Err Unreachable) ↔ (SizesAre (now (adjacency .entry) .n) (now (block .entry)) (now (places .entry)) × (room (now (adjacency .entry) .n) ≤ length (now (out .entry))) × Planless (now (adjacency .entry)) (now (block .entry)) (now (places .entry))) ⌝ }
+    ensures short_exactly { λ r. ⌜ ((needed : ℕ) → (r ≡ Err (BufferTooShort needed)) ↔ (SizesAre (now (adjacency .entry) .n) (now (block .entry)) (now (places .entry)) × (length (now (out .entry)) < room (now (adjacency .entry) .n)) × (needed ≡ room (now (adjacency .entry) .n)))) ⌝ }
+    ensures mismatch_exactly { λ r. ⌜ (r ≡ Err SizeMismatch) ↔ (SizesAre (now (adjacency .entry) .n) (now (block .entry)) (now (places .entry)) → ⊥) ⌝ }
     ensures refused_untouched { λ r. ⌜ ((f : PlanFault) → r ≡ Err f → now (out .exit) ≡ now (out .entry)) ⌝ }
 {
     let n = adjacency.n;
@@ -69,6 +72,23 @@ pub fn plan(
         }),
         None => Err(PlanFault::Unreachable),
     }
+}
+
+// The same for a machine, in words of its couplers in service as they are now.
+pub fn plan_on<M: Machine>(
+    machine: &M,
+    block: &Block,
+    places: &Places,
+    out: &mut [u16],
+) -> Result<Planned, PlanFault>
+    ensures planned { λ r. ⌜ ((p : Planned) → r ≡ Ok p → (p .places .n ≡ M·Chip .layout (now (machine .entry)) .places) × PlanIn (OnCoupler (M·Chip .layout (now (machine .entry))) (M·Machine .meaning (now (machine .entry)) .service)) (M·Chip .layout (now (machine .entry)) .places) (wordsOf (now (block .entry))) (placesOf (now (places .entry))) (now (out .entry)) (now (out .exit)) (p .gates) (placesOf (p .places))) ⌝ }
+    ensures unreachable_exactly { λ r. ⌜ (r ≡ Err Unreachable) ↔ (SizesAre (M·Chip .layout (now (machine .entry)) .places) (now (block .entry)) (now (places .entry)) × (room (M·Chip .layout (now (machine .entry)) .places) ≤ length (now (out .entry))) × NoPlan (OnCoupler (M·Chip .layout (now (machine .entry))) (M·Machine .meaning (now (machine .entry)) .service)) (M·Chip .layout (now (machine .entry)) .places) (wordsOf (now (block .entry))) (placesOf (now (places .entry)))) ⌝ }
+    ensures short_exactly { λ r. ⌜ ((needed : ℕ) → (r ≡ Err (BufferTooShort needed)) ↔ (SizesAre (M·Chip .layout (now (machine .entry)) .places) (now (block .entry)) (now (places .entry)) × (length (now (out .entry)) < room (M·Chip .layout (now (machine .entry)) .places)) × (needed ≡ room (M·Chip .layout (now (machine .entry)) .places)))) ⌝ }
+    ensures mismatch_exactly { λ r. ⌜ (r ≡ Err SizeMismatch) ↔ (SizesAre (M·Chip .layout (now (machine .entry)) .places) (now (block .entry)) (now (places .entry)) → ⊥) ⌝ }
+    ensures refused_untouched { λ r. ⌜ ((f : PlanFault) → r ≡ Err f → now (out .exit) ≡ now (out .entry)) ⌝ }
+{
+    let adjacency = Adjacency::of(machine);
+    plan(&adjacency, block, places, out)
 }
 
 // Whether three sizes are one.
