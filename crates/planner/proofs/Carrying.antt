@@ -13,7 +13,7 @@ use Rattle.std.proofs.shelf.Lists.{take-more, map-append, length-map, length-ta
 use Rattle.parity.specs.Sets.{bit, when, xor-over}
 use Rattle.parity.specs.Pairing.{dot}
 use Rattle.parity.specs.Placements.{Placement, places-of, PlaceOf}
-use Rattle.parity.proofs.Bits.{bit-zero, bit-suc, bit-cases, bit-pow-same, zero-one, xor-cancel-r, place-below, place-is, flip-off, flip-cases, only-place}
+use Rattle.parity.proofs.Bits.{bit-zero, bit-suc, bit-cases, bit-some, bit-pow-same, zero-one, xor-cancel-r, place-below, place-is, flip-off, flip-cases, only-place}
 use Rattle.parity.proofs.Counts.{below-all, ones-none, ones-pow, single-place, some-place}
 use Rattle.parity.proofs.Xors.{xor-over-none, xor-over-xor, xor-over-one}
 use Rattle.parity.proofs.Pairing.{dot-xor, dot-pow, dot-none}
@@ -103,3 +103,9 @@ module _ (n : ℕ) (at : List ℕ) (p : Placement n at) where
       let place : (w : ℕ) → bit x w ≡ 1 → s .0 ≡ getD at w 0 =
       λ w i. place-is (s .0) (getD at w 0) (ap (λ (y : ℕ). bit y (getD at w 0)) (sym (s .1)) ∙ at-place x w (place-below n x w hx i) ∙ i) in
       ap ones (only-place x (r .0) some (λ q i. p .apart (r .0) q (place-below n x (r .0) hx (r .1)) (place-below n x q hx i) (sym (place (r .0) (r .1)) ∙ place q i))) ∙ ones-pow (r .0)
+
+  -- a word with a wire has a place
+  pub some-carried : (x : ℕ) → x < 2 ^ n → x ≢ 0 → places-of at x ≢ 0
+  some-carried x hx ne =
+      let w = some-place x ne in
+      bit-some (places-of at x) (getD at (w .0) 0) (at-place x (w .0) (place-below n x (w .0) hx (w .1)) ∙ w .1)

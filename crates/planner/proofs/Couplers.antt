@@ -14,11 +14,11 @@ use Rattle.islands.specs.Graphs.{OnEdge}
 use Rattle.chip.specs.Layout.{Layout, Sound}
 use Rattle.machine.specs.OnCoupler.{OnCoupler}
 use Rattle.machine.proofs.OnCouplers.{obeys-exactly}
-use Rattle.rounds.specs.Ways.{Graph, Way, stay, step, Straddles}
+use Rattle.rounds.specs.Ways.{Graph, Way, stay, step, OneIsland, Straddles}
 use Rattle.rounds.proofs.Straddling.{straddling-stays}
 use Rattle.planner.specs.Adjacent.{Shows, CouplerWay, stay as remain, step as cross}
 use Rattle.planner.specs.Plans.{Reaches, NoPlan, PlanIn}
-use Rattle.planner.specs.Laws.{ObeysNeighbours, OnTwoIslands, TwoIslandsStay, WaysOverCouplers, PlansOverCouplers}
+use Rattle.planner.specs.Laws.{ObeysNeighbours, OnOneIsland, OnTwoIslands, TwoIslandsStay, WaysOverCouplers, PlansOverCouplers}
 use Rattle.planner.proofs.Neighbours.{turned-on, shows-graph, shown}
 
 -- a gate between neighbours lies on a coupler in service
@@ -75,3 +75,10 @@ none-over l service adj n block old s = (
   (λ no gs new r. no gs new (plans-over-couplers l service adj n block old gs new s .1 r)),
   (λ no gs new r. no gs new (plans-over-couplers l service adj n block old gs new s .0 r)),
 )
+
+-- what straddles needs places on two islands
+pub straddles-over : (l : Layout) (service : List Bool) (adj : List ℕ) (x : ℕ) → Shows l service adj → Straddles adj x → OnTwoIslands l service x
+straddles-over l service adj x s t = record { from = t .from; to = t .to; has-from = t .has-from; has-to = t .has-to; no-way = λ w. t .no-way (under s w) }
+
+pub one-island-over : (l : Layout) (service : List Bool) (adj : List ℕ) (x : ℕ) → Shows l service adj → OneIsland adj x → OnOneIsland l service x
+one-island-over l service adj x s t p q a b = over s (t p q a b)

@@ -30,6 +30,10 @@ pub record OnTwoIslands (l : Layout) (service : List Bool) (x : ℕ) : Type 0 wh
   pub has-to : bit x to ≡ 1
   pub no-way : CouplerWay l service from to → ⊥
 
+-- each two places of x have one
+abbrev pub OnOneIsland : Layout → List Bool → ℕ → Type 0
+OnOneIsland l service x = (p q : ℕ) → bit x p ≡ 1 → bit x q ≡ 1 → CouplerWay l service p q
+
 -- a set that needs places on two islands does so after any gates on couplers in service
 abbrev pub TwoIslandsStay : Type 0
 TwoIslandsStay = (l : Layout) (service : List Bool) (x : ℕ) (gs : List Gate) → Sound l → OnTwoIslands l service x → Each (OnCoupler l service) gs

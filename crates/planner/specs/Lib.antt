@@ -3,3 +3,4 @@ pub mod Blocks
 pub mod Plans
 pub mod Views
 pub mod Laws
+pub mod Reasons

@@ -1,8 +1,6 @@
 // Blocks: what a run of CX and SWAP calls has added up to.
 ghost use mathlib.Core.Path.{_≡_};
-ghost use Prim.Native.Nat.{ℕ, _<_, _≤_};
-ghost use lib.Bits.{bitXor};
-ghost use lib.ListN.{getD, set, take};
+ghost use Prim.Native.Nat.{_<_, _≤_};
 ghost use Rattle.std.specs.declared.option.Option.the-variants.{Some, None};
 ghost use Rattle.chip.specs.Answers.{answered, kept};
 ghost use Rattle.parity.specs.Words.{fresh, cnot};
@@ -42,15 +40,16 @@ impl Block {
         &self.words[..self.n]
     }
 
-    // CX from wire a to wire b: the word of a is added into that of b. Refused, nothing changes.
+    // CX from wire a to wire b: the word of a is added into that of b, and the dual of b into that of a.
+    // Refused, nothing changes.
     pub fn cx(&mut self, a: usize, b: usize) -> Result<(), WireFault>
         ensures answer { λ r. ⌜ r ≡ answered (wireFault (now (self .entry) .n) a b) tt ⌝ }
         ensures leaves { λ _. ⌜ wordsOf (now (self .exit)) ≡ kept (wireFault (now (self .entry) .n) a b) (cnot (a, b) (wordsOf (now (self .entry)))) (wordsOf (now (self .entry))) ⌝ }
         ensures same_size { λ _. ⌜ now (self .exit) .n ≡ now (self .entry) .n ⌝ }
     {
         check_wires(self.n, a, b)?;
-        self.words[b] = self.words[a] ^ self.words[b];
-        self.duals[a] = self.duals[b] ^ self.duals[a];
+        add_into(&mut self.words, a, b);
+        add_into(&mut self.duals, b, a);
         Ok(())
     }
 
@@ -78,6 +77,14 @@ fn check_wires(n: usize, a: usize, b: usize) -> Result<(), WireFault>
         return Err(WireFault::SameWire);
     }
     Ok(())
+}
+
+// Adds a word into another.
+fn add_into(words: &mut [u64; 64], from: usize, into: usize)
+    requires { ⌜ from < 64 ⌝ ∗ ⌜ into < 64 ⌝ }
+    ensures { λ _. ⌜ now (words .exit) ≡ cnot (from, into) (now (words .entry)) ⌝ }
+{
+    words[into] = words[from] ^ words[into];
 }
 
 // Exchanges two words.

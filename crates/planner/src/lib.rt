@@ -7,4 +7,5 @@ pub mod island;
 pub mod laws;
 pub mod places;
 pub mod plan;
+pub mod reason;
 pub mod store;
