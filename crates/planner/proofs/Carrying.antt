@@ -1,18 +1,16 @@
 -- Carrying words of wires over to places.
-use Prim.Native.Nat.{ℕ, zero, suc, _+_, _/_, _%_, _^_, _<_, _≤_}
-use mathlib.Core.Path.{_≡_, refl, sym, ap, ap₂, _∙_, subst}
-use mathlib.Core.Logic.{_≢_, inl, inr, _↔_}
+use Prim.Native.Nat.{ℕ, zero, suc, _+_, _/_, _%_, _^_, _<_}
+use mathlib.Core.Path.{_≡_, refl, sym, ap, ap₂, _∙_}
+use mathlib.Core.Logic.{_≢_, inl, inr}
 use mathlib.Core.List.{List, [], _∷_, _++_, map}
-use native.Mathlib.Nat.{pow-suc}
 use native.Mathlib.Omega.{arith}
 use lib.Bits.{bitXor, xor-assoc, xor-zero-r}
 use lib.Count.{ones}
 use lib.ListN.{length, getD, take}
-use Rattle.std.proofs.shelf.Tests.{cases-eq}
 use Rattle.std.proofs.shelf.Lists.{take-more, map-append, length-map, length-take, getD-map}
 use Rattle.parity.specs.Sets.{bit, when, xor-over}
 use Rattle.parity.specs.Pairing.{dot}
-use Rattle.parity.specs.Placements.{Placement, places-of, PlaceOf}
+use Rattle.parity.specs.Placements.{Placement, places-of}
 use Rattle.parity.proofs.Bits.{bit-zero, bit-suc, bit-cases, bit-some, bit-pow-same, zero-one, xor-cancel-r, place-below, place-is, flip-off, flip-cases, only-place}
 use Rattle.parity.proofs.Counts.{below-all, ones-none, ones-pow, single-place, some-place}
 use Rattle.parity.proofs.Xors.{xor-over-none, xor-over-xor, xor-over-one}

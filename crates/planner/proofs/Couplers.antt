@@ -1,23 +1,19 @@
 -- Neighbours and couplers in service.
-use Prim.Native.Nat.{ℕ, _≤_}
-use mathlib.Core.Path.{_≡_, refl, sym, ap, _∙_, subst}
+use Prim.Native.Nat.{ℕ}
 use mathlib.Core.Logic.{inl, inr, _↔_}
 use mathlib.Core.List.{List}
 use mathlib.Core.Bool.{Bool}
-use lib.ListN.{length, getD}
 use Rattle.parity.specs.Words.{Gate}
-use Rattle.parity.specs.Sets.{bit}
-use Rattle.parity.specs.Gates.{acts, Each}
 use Rattle.parity.specs.Entries.{gates-in}
 use Rattle.parity.proofs.Each.{each-map}
 use Rattle.islands.specs.Graphs.{OnEdge}
-use Rattle.chip.specs.Layout.{Layout, Sound}
+use Rattle.chip.specs.Layout.{Layout}
 use Rattle.machine.specs.OnCoupler.{OnCoupler}
 use Rattle.machine.proofs.OnCouplers.{obeys-exactly}
-use Rattle.rounds.specs.Ways.{Graph, Way, stay, step, OneIsland, Straddles}
+use Rattle.rounds.specs.Ways.{Way, stay, step, OneIsland, Straddles}
 use Rattle.rounds.proofs.Straddling.{straddling-stays}
 use Rattle.planner.specs.Adjacent.{Shows, CouplerWay, stay as remain, step as cross}
-use Rattle.planner.specs.Plans.{Reaches, NoPlan, PlanIn}
+use Rattle.planner.specs.Plans.{NoPlan, PlanIn}
 use Rattle.planner.specs.Laws.{ObeysNeighbours, OnOneIsland, OnTwoIslands, TwoIslandsStay, WaysOverCouplers, PlansOverCouplers}
 use Rattle.planner.proofs.Neighbours.{turned-on, shows-graph, shown}
 

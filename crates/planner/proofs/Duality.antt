@@ -1,5 +1,5 @@
 -- Words and dual words: the calls on a block keep them paired.
-use Prim.Native.Nat.{ℕ, _+_, _^_, _<_, _≤_}
+use Prim.Native.Nat.{ℕ, _^_, _<_, _≤_}
 use mathlib.Core.Path.{_≡_, refl, sym, ap, ap₂, _∙_, subst}
 use mathlib.Core.Logic.{_≢_, _⊎_, inl, inr}
 use mathlib.Core.List.{List}
@@ -10,17 +10,14 @@ use lib.Dec.{eqb, ltb}
 use lib.ListN.{length, getD, set, take}
 use lib.Pow.{pow-lt}
 use lib.Seq.{getD-take, take-set-lt}
-use Rattle.std.specs.declared.option.Option.{Option}
 use Rattle.std.specs.declared.option.Option.the-variants.{Some, None}
 use Rattle.std.proofs.shelf.Lists.{getD-set-same, getD-set-other, length-set}
 use Rattle.std.proofs.shelf.Tests.{cases-eq, ltb-true, eqb-false}
 use Rattle.parity.specs.Words.{fresh, cnot}
-use Rattle.parity.specs.Sets.{bit}
 use Rattle.parity.specs.Pairing.{dot}
 use Rattle.parity.proofs.Bits.{bit-pow-same, bit-pow-other}
 use Rattle.parity.proofs.Pairing.{dot-xor, dot-comm, dot-pow}
 use Rattle.parity.proofs.Words.{getD-fresh}
-use Rattle.planner.specs.declared.fault.WireFault.{WireFault}
 use Rattle.planner.specs.declared.fault.WireFault.the-variants.{NoSuchWire, SameWire}
 use Rattle.planner.specs.Blocks.{wireFault, traded}
 

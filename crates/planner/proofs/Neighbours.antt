@@ -8,7 +8,6 @@ use native.Mathlib.Omega.{arith}
 use lib.Bits.{bitOr}
 use lib.ListN.{length, getD, set, take, replicate}
 use lib.Seq.{getD-take}
-use Rattle.std.specs.declared.option.Option.{Option}
 use Rattle.std.specs.declared.option.Option.the-variants.{Some, None}
 use Rattle.std.proofs.shelf.Lists.{getD-set-same, getD-set-other, getD-past, length-set, length-take}
 use Rattle.std.proofs.shelf.Tests.{cases-eq, cases-lt}
@@ -19,7 +18,7 @@ use Rattle.parity.proofs.Masks.{or-cases, or-in-l, or-in-r}
 use Rattle.chip.specs.Layout.{Layout, Sound}
 use Rattle.chip.specs.Chips.{endsAt, Joins}
 use Rattle.machine.specs.OnCoupler.{OnCoupler}
-use Rattle.machine.proofs.OnCouplers.{Ends, ends-of}
+use Rattle.machine.proofs.OnCouplers.{ends-of}
 use Rattle.rounds.specs.Ways.{Graph}
 use Rattle.planner.specs.Adjacent.{Shows, servingEnds, Added}
 

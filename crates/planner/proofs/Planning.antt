@@ -1,17 +1,15 @@
 -- Plans for wanted sets are plans for the block.
-use Prim.Native.Nat.{ℕ, _+_, _-_, _*_, _^_, _<_, _≤_}
-use mathlib.Core.Path.{_≡_, refl, sym, ap, ap₂, _∙_, subst}
-use mathlib.Core.Logic.{_≢_, _↔_}
+use Prim.Native.Nat.{ℕ, _-_, _^_, _<_, _≤_}
+use mathlib.Core.Path.{_≡_, sym, ap, ap₂, _∙_, subst}
 use mathlib.Core.List.{List, map}
 use native.Mathlib.Omega.{arith}
 use lib.Count.{ones}
 use lib.ListN.{length, getD, take}
 use lib.Pow.{pow-lt}
 use lib.Seq.{getD-take}
-use Rattle.std.proofs.shelf.Lists.{length-map, length-take, getD-past}
-use Rattle.std.proofs.shelf.Tests.{cases-lt}
+use Rattle.std.proofs.shelf.Lists.{length-take}
 use Rattle.parity.specs.Words.{Gate, fresh, replay}
-use Rattle.parity.specs.Sets.{bit, xor-over}
+use Rattle.parity.specs.Sets.{bit}
 use Rattle.parity.specs.Gates.{acts, TwoPlaces, Each}
 use Rattle.parity.specs.Pairing.{dot}
 use Rattle.parity.specs.Entries.{gates-in, Wrote}
@@ -27,7 +25,7 @@ use Rattle.rounds.specs.Duals.{Paired}
 use Rattle.rounds.specs.Plans.{Planned, AllSingle}
 use Rattle.rounds.specs.Exactness.{Refused}
 use Rattle.rounds.proofs.Straddling.{edge-two-places}
-use Rattle.planner.specs.Plans.{room, Delivers, Renames, Reaches, NoPlan, PlanIn, Lowest}
+use Rattle.planner.specs.Plans.{room, Renames, Reaches, NoPlan, PlanIn, Lowest}
 use Rattle.planner.proofs.Carrying.{pairing-carried, single-carried, carried-single}
 
 module _ (n : ℕ) (words at : List ℕ) (p : Placement n at) (low : (w : ℕ) → w < n → getD words w 0 < 2 ^ n) where

@@ -1,7 +1,6 @@
 // The plan: gates between neighbours and a new placement for the words of a block, or the truth that there are none.
 ghost use mathlib.Core.Path.{_≡_};
 ghost use mathlib.Core.Logic.{_↔_};
-ghost use mathlib.Core.List.{List};
 ghost use mathlib.Core.Bool.{true};
 ghost use Prim.Native.Nat.{ℕ, _-_, _*_, _^_, _<_, _≤_};
 ghost use lib.ListN.{length, getD, take};

@@ -9,14 +9,14 @@ use Rattle.parity.specs.Words.{Gate, replay}
 use Rattle.parity.specs.Sets.{bit, xor-over}
 use Rattle.parity.specs.Gates.{acts, TwoPlaces, Each}
 use Rattle.parity.specs.Pairing.{turned}
-use Rattle.parity.specs.Entries.{gates-in, Wrote}
+use Rattle.parity.specs.Entries.{gates-in}
 use Rattle.parity.proofs.Bits.{zero-one, bit-none, bit-pow-same, place-below, place-is}
 use Rattle.parity.proofs.Counts.{ones-pow, single-place}
 use Rattle.parity.proofs.Xors.{getD-map-zero}
 use Rattle.parity.proofs.Each.{each-map, each-turned}
 use Rattle.parity.proofs.Gates.{acts-none, acts-below, single-places-deliver}
 use Rattle.parity.proofs.Entries.{gates-in-none}
-use Rattle.islands.specs.Graphs.{Reach, OnEdge}
+use Rattle.islands.specs.Graphs.{OnEdge}
 use Rattle.rounds.specs.Ways.{Graph, Way, stay, OneIsland, Straddles}
 use Rattle.rounds.specs.Duals.{Moved, Paired}
 use Rattle.rounds.specs.Plans.{OwnPlaces, Busy, AllSingle, Planned}

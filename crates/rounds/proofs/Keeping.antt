@@ -1,7 +1,7 @@
 -- What the loop of a plan keeps, from wire to wire.
 use Prim.Native.Nat.{ℕ, _+_, _-_, _*_, _^_, _≤_, zero-le, _<_}
 use mathlib.Core.Path.{_≡_, refl, sym, ap, _∙_, subst}
-use mathlib.Core.Logic.{_≢_, _⊎_, inl, inr}
+use mathlib.Core.Logic.{_≢_, inl, inr}
 use mathlib.Core.List.{List}
 use native.Mathlib.Omega.{arith}
 use lib.ListN.{length, getD, drop}

@@ -1,5 +1,5 @@
 -- A set that straddles islands does so after any gates on edges.
-use Prim.Native.Nat.{ℕ, _^_}
+use Prim.Native.Nat.{ℕ}
 use mathlib.Core.Path.{_≡_, sym, ap, _∙_, subst}
 use mathlib.Core.Logic.{_≢_, inl, inr}
 use mathlib.Core.List.{List, [], _∷_}
@@ -11,7 +11,7 @@ use Rattle.parity.specs.Gates.{act, acts, TwoPlaces, Each}
 use Rattle.parity.proofs.Bits.{zero-one, bit-cases, place-is}
 use Rattle.parity.proofs.Gates.{act-other, act-still}
 use Rattle.islands.specs.Graphs.{OnEdge}
-use Rattle.rounds.specs.Ways.{Graph, Way, stay, step, Straddles}
+use Rattle.rounds.specs.Ways.{Graph, Way, stay, step}
 use Rattle.rounds.specs.Exactness.{StraddlingStays, StraddlingNeverSingle}
 use Rattle.rounds.proofs.Ways.{way-trans, way-back}
 

@@ -2,7 +2,7 @@
 use Prim.Native.Nat.{ℕ, _^_, _<_}
 use mathlib.Core.Path.{_≡_, _∙_, subst}
 use mathlib.Core.List.{List}
-use lib.ListN.{length, getD}
+use lib.ListN.{length}
 use lib.Bits.{bitXor}
 use Rattle.parity.specs.Sets.{bit}
 use Rattle.parity.proofs.Bits.{flip-other}

@@ -53,9 +53,17 @@ pub fn first_straddling(adj: &[u64], wanted: &[u64]) -> Option<usize>
     let live = all_below(adj.len());
     for w in 0..wanted.len() {
         let island = island_of(adj, live, lowest(wanted[w]));
-        if without(wanted[w], island) != 0 {
+        if any(without(wanted[w], island)) {
             return Some(w);
         }
     }
     None
+}
+
+// Whether a set has a place.
+fn any(x: u64) -> bool
+    ensures yes { λ r. ⌜ (r ≡ true → x ≢ 0) ⌝ }
+    ensures no { λ r. ⌜ (r ≡ false → x ≡ 0) ⌝ }
+{
+    x != 0
 }

@@ -1,12 +1,12 @@
-use Prim.Native.Nat.{ℕ, _+_, _-_, _*_, _^_, _<_, _≤_}
+use Prim.Native.Nat.{ℕ, _-_, _^_}
 use mathlib.Core.Path.{_≡_, refl, sym, ap, _∙_}
-use mathlib.Core.Logic.{_≢_, _⊎_, inl, inr}
+use mathlib.Core.Logic.{inl, inr}
 use lib.ListN.{length, getD}
 use Rattle.parity.specs.Sets.{bit}
 use Rattle.parity.proofs.Bits.{zero-one, bit-cases, place-below, place-is}
 use Rattle.parity.proofs.Counts.{single-place}
 use Rattle.parity.proofs.Pairing.{dot-some}
-use Rattle.islands.specs.Graphs.{Reach, here}
+use Rattle.islands.specs.Graphs.{here}
 use Rattle.rounds.proofs.Ways.{reach-trans, reach-back}
 use Rattle.rounds.proofs.give.Needs as need
 

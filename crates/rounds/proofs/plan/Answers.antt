@@ -2,14 +2,12 @@ use Prim.Native.Nat.{ℕ, _+_, _-_, _*_, _^_, _<_, _≤_}
 use mathlib.Core.Path.{_≡_, refl, sym, ap, _∙_, subst}
 use mathlib.Core.Logic.{inl}
 use mathlib.Core.List.{List}
-use mathlib.Core.Bool.{true, false}
 use native.Mathlib.Omega.{arith}
 use lib.ListN.{length, getD}
 use lib.Bits.{bitXor}
 use lib.Count.{ones, ones-ones}
 use Rattle.std.proofs.shelf.Tests.{both-ways}
 use Rattle.parity.specs.Words.{Gate}
-use Rattle.parity.specs.Sets.{bit}
 use Rattle.parity.specs.Gates.{acts, Each}
 use Rattle.parity.specs.Pairing.{turned}
 use Rattle.parity.proofs.Bits.{place-below}

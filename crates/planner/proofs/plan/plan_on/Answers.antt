@@ -1,11 +1,9 @@
 use Prim.Native.Nat.{ℕ, _<_, _≤_}
-use mathlib.Core.Path.{_≡_, refl, sym, _∙_, subst}
+use mathlib.Core.Path.{_≡_, sym, _∙_, subst}
 use mathlib.Core.Logic.{_↔_}
 use lib.ListN.{length}
-use Rattle.std.specs.declared.result.Result.{Result}
 use Rattle.std.specs.declared.result.Result.the-variants.{Err}
 use Rattle.machine.specs.OnCoupler.{OnCoupler}
-use Rattle.islands.specs.Graphs.{OnEdge}
 use Rattle.planner.specs.declared.fault.PlanFault.the-variants.{SizeMismatch, BufferTooShort, Unreachable}
 use Rattle.planner.specs.Plans.{room, PlanIn, NoPlan}
 use Rattle.planner.specs.Views.{neighboursOf, wordsOf, placesOf, SizesAre}

@@ -1,8 +1,6 @@
 use Prim.Native.Nat.{ℕ, _^_, _<_, _≤_}
-use mathlib.Core.Path.{_≡_, refl, sym, ap, _∙_, subst}
-use mathlib.Core.Logic.{_≢_}
+use mathlib.Core.Path.{_≡_, refl, sym, _∙_, subst}
 use mathlib.Core.List.{map}
-use mathlib.Core.Bool.{true, false}
 use native.Mathlib.Omega.{arith}
 use lib.ListN.{length, getD, replicate}
 use Rattle.std.proofs.shelf.Lists.{length-map}
@@ -10,7 +8,6 @@ use Rattle.std.proofs.shelf.Tests.{both-ways}
 use Rattle.parity.specs.Placements.{Placement, places-of}
 use Rattle.parity.proofs.Pairing.{dot-some}
 use Rattle.rounds.specs.Ways.{OneIsland, Straddles}
-use Rattle.planner.specs.Laws.{OnOneIsland}
 use Rattle.planner.specs.Views.{neighboursOf, wordsOf, dualsOf, placesOf}
 use Rattle.planner.proofs.Asking.{neighbours-length, neighbours-graph, words-length, words-below, block-paired, places-placement, first-of-64}
 use Rattle.planner.proofs.Planning.{wanted-at}

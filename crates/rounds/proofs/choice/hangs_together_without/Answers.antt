@@ -1,5 +1,5 @@
 use Prim.Native.Nat.{ℕ, _^_, _<_}
-use mathlib.Core.Path.{_≡_, refl, sym, ap, _∙_, subst}
+use mathlib.Core.Path.{_≡_, sym, ap, _∙_, subst}
 use lib.ListN.{length}
 use lib.Bits.{bitXor, xor-lt}
 use lib.Pow.{pow-lt}

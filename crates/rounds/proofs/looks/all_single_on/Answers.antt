@@ -1,13 +1,8 @@
-use Prim.Native.Nat.{ℕ, _+_, _<_, _≤_}
-use mathlib.Core.Path.{_≡_, refl, sym, ap, _∙_, subst}
-use mathlib.Core.Logic.{_≢_, inl, inr}
-use native.Mathlib.Omega.{arith}
+use mathlib.Core.Logic.{_≢_}
 use borrow.Author.Count.{below-more}
-use lib.ListN.{length, getD}
+use lib.ListN.{getD}
 use lib.Bits.{bitAnd}
-use lib.Count.{ones}
-use Rattle.std.proofs.shelf.Tests.{true≢false, false≢true}
-use Rattle.parity.specs.Sets.{bit}
+use Rattle.std.proofs.shelf.Tests.{false≢true}
 use Rattle.parity.proofs.Bits.{bit-some}
 use Rattle.parity.proofs.Masks.{and-in, and-parts}
 use Rattle.parity.proofs.Counts.{some-place}

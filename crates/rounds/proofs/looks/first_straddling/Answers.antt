@@ -1,4 +1,4 @@
-use Prim.Native.Nat.{ℕ, _+_, _-_, _^_, _<_, _≤_}
+use Prim.Native.Nat.{ℕ, _-_, _^_, _<_}
 use mathlib.Core.Path.{_≡_, refl, sym, ap, _∙_, subst}
 use native.Mathlib.Omega.{arith}
 use borrow.Author.Count.{below-more}
@@ -33,15 +33,15 @@ loop-w-again c =
     below-more (λ (v : ℕ). OneIsland adj (getD xs v 0)) w (c .loop-w .inv)
     (one-island-from adj (c .all-below-live .result) (c .lowest .result) (getD xs w 0) (c .pre .graph)
     (λ q o. c .island-of-island .ensures .only-reached q (set-unless isl q (λ z.
-    zero-one (bit (c .without .result) q) (ap (λ (x : ℕ). bit x q) (c .if-without-ne0 .left) ∙ bit-none q) (c .without .ensures .all q o z)))))
+    zero-one (bit (c .without .result) q) (ap (λ (x : ℕ). bit x q) (c .if-any .ensures tt .no refl) ∙ bit-none q) (c .without .ensures .all q o z)))))
 
-pub returns-then-without-ne0 : need.returns-then-without-ne0
-returns-then-without-ne0 c =
+pub returns-then-any : need.returns-then-any
+returns-then-any c =
     let adj = c .args .adj .now in
     let xs = c .args .wanted .now in
     let w = c .loop-w .w in
     let isl = c .island-of-island .result in
-    let far = some-place (c .without .result) (c .if-without-ne0 .taken) in
+    let far = some-place (c .without .result) (c .if-any .ensures tt .yes refl) in
     let two = c .without .ensures .only (far .0) (far .1) in
     let first : FirstStraddling adj xs w = record {
       below = c .loop-w-test .taken;

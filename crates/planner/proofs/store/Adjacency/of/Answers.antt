@@ -1,8 +1,8 @@
-use Prim.Native.Nat.{ℕ, _+_, _<_, _≤_}
-use mathlib.Core.Path.{_≡_, refl, sym, ap, _∙_, subst}
+use Prim.Native.Nat.{ℕ, _+_, _<_}
+use mathlib.Core.Path.{_≡_, refl, sym, ap, subst}
 use mathlib.Core.List.{List}
 use native.Mathlib.Omega.{arith}
-use lib.ListN.{length, getD, replicate, take}
+use lib.ListN.{length, replicate, take}
 use Rattle.chip.specs.Chips.{endsAt}
 use Rattle.planner.specs.Adjacent.{Shows}
 use Rattle.planner.proofs.Neighbours.{Rows, no-rows, serving-some, rows-joined, rows-skipped, rows-show, shows-graph, getD-zeros}
