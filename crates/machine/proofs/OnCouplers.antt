@@ -13,6 +13,7 @@ use Rattle.chip.specs.Layout.{Layout, Sound}
 use Rattle.chip.specs.Chips.{endsAt, joining, Joins}
 use Rattle.chip.proofs.Joining.{joining-joins, joins-joining}
 use Rattle.parity.specs.Words.{Gate}
+use Rattle.parity.specs.Gates.{TwoPlaces}
 use Rattle.machine.specs.declared.fault.MachineFault.{MachineFault}
 use Rattle.machine.specs.declared.fault.MachineFault.the-variants.{PlaceOutOfRange, NotCoupled, AllowanceExceeded}
 use Rattle.machine.specs.Meaning.{Meaning}
@@ -23,15 +24,10 @@ use Rattle.machine.specs.Calls.{couplerFault, servesAt, inService, coupled, fi
 use Rattle.machine.specs.OnCoupler.{OnCoupler, ObeysExactly}
 
 -- the two ends of a coupler are different places below n
-pub record Ends (l : Layout) (g : Gate) : Type 0 where
-  pub from : g .0 < l .places
-  pub to : g .1 < l .places
-  pub apart : g .0 ≡ g .1 → ⊥
-
-pub ends-of : (l : Layout) (a b k : ℕ) → Sound l → Joins l a b k → Ends l (a, b)
+pub ends-of : (l : Layout) (a b k : ℕ) → Sound l → Joins l a b k → TwoPlaces (l .places) (a, b)
 ends-of l a b k so j = go (j .ends)
   where
-    go : (endsAt l k ≡ (a, b)) ⊎ (endsAt l k ≡ (b, a)) → Ends l (a, b)
+    go : (endsAt l k ≡ (a, b)) ⊎ (endsAt l k ≡ (b, a)) → TwoPlaces (l .places) (a, b)
     go (inl e) =
         let x : endsAt l k .0 ≡ a = ap (λ (p : ℕ × ℕ). p .0) e in
         let y : endsAt l k .1 ≡ b = ap (λ (p : ℕ × ℕ). p .1) e in
@@ -50,7 +46,7 @@ pub on-coupler-obeys : (l : Layout) (s : Meaning) (g : Gate) → Sound l → OnC
 on-coupler-obeys l s g so on =
     let e = ends-of l (g .0) (g .1) (on .coupler) so (on .joins) in
     let inside = and-from (ltb (g .0) (l .places)) (ltb (g .1) (l .places)) (lt-ltb (g .0) (l .places) (e .from)) (lt-ltb (g .1) (l .places) (e .to)) in
-    let two = ne-eqb (g .0) (g .1) (e .apart) in
+    let two = ne-eqb (g .0) (g .1) (λ q. e .apart (sym q)) in
     let found = joins-joining l so (g .0) (g .1) (on .coupler) (on .joins) in
     rw (inside, two, found, on .serves) refl
 
@@ -100,7 +96,7 @@ within s false e h = absurd (some-none (AllowanceExceeded 1 (s .allowance)) h)
 
 -- what holds of a gate that is obeyed
 pub record Obeyed (l : Layout) (s : Meaning) (c t : ℕ) : Type 0 where
-  pub ends : Ends l (c, t)
+  pub ends : TwoPlaces (l .places) (c, t)
   pub left : 1 ≤ s .allowance
 
 pub obeyed : (l : Layout) (s : Meaning) (c t : ℕ) → Sound l → cnotFault l s c t ≡ None → Obeyed l s c t

@@ -14,7 +14,7 @@ use Rattle.std.specs.Iters.{counting}
 use Rattle.std.proofs.shelf.Bits.{one-shl}
 use Rattle.std.proofs.shelf.Edits.{fill-by-more}
 use Rattle.std.proofs.shelf.Counted.{length-map-counting, getD-map-counting, take-map-counting, fill-by-all}
-use Rattle.std.proofs.shelf.Lists.{at-drop-all}
+use Rattle.std.proofs.shelf.Lists.{at-drop-all, getD-past, set-past, set-getD}
 use Rattle.std.proofs.shelf.Tests.{cases-lt, cases-eq}
 use Rattle.parity.specs.Words.{fresh, Gate, cnot, replay, entry, gateOf, Rereads}
 
@@ -47,24 +47,19 @@ fresh-more ws q len below so-far = rw (one-shl q 64 below) (fill-by-more (λ (k 
 abbrev pub Below : ℕ → List ℕ → Type 0
 Below n ws = (q : ℕ) → getD ws q 0 < 2 ^ n
 
-getD-past : (ws : List ℕ) (q : ℕ) → length ws ≤ q → getD ws q 0 ≡ 0
-getD-past [] q h = refl
-getD-past (w ∷ ws) zero h = absurd (omega arith)
-getD-past (w ∷ ws) (suc q) h = getD-past ws q (omega arith)
-
 pub below-fresh : (n : ℕ) → Below n (fresh n)
 below-fresh n q = by (cases-lt q n)
   where
     by : (q < n) ⊎ (n ≤ q) → getD (fresh n) q 0 < 2 ^ n
     by (inl h) = let e = getD-fresh n q h in let p = pow-lt h in omega arith
-    by (inr h) = let l = length-fresh n in let e = getD-past (fresh n) q (omega arith) in let p = pow-pos n in omega arith
+    by (inr h) = let l = length-fresh n in let e = getD-past (fresh n) q 0 (omega arith) in let p = pow-pos n in omega arith
 
 pub below-set : (n : ℕ) (ws : List ℕ) (t v : ℕ) → Below n ws → v < 2 ^ n → Below n (set ws t v)
 below-set n ws t v b h q = by (cases-eq q t) (cases-lt t (length ws))
   where
     by : (q ≡ t) ⊎ (q ≡ t → ⊥) → (t < length ws) ⊎ (length ws ≤ t) → getD (set ws t v) q 0 < 2 ^ n
     by (inl e) (inl l) = let s = getD-set-same ws t v 0 l in let f = ap (λ (k : ℕ). getD (set ws t v) k 0) e in omega arith
-    by (inl e) (inr l) = let m = length-set ws t v in let p = getD-past (set ws t v) q (omega arith) in let z = pow-pos n in omega arith
+    by (inl e) (inr l) = let m = length-set ws t v in let p = getD-past (set ws t v) q 0 (omega arith) in let z = pow-pos n in omega arith
     by (inr e) l = let s = getD-set-other ws t q v 0 e in let x = b q in omega arith
 
 pub below-cnot : (n : ℕ) (g : Gate) (ws : List ℕ) → Below n ws → Below n (cnot g ws)
@@ -91,21 +86,11 @@ pub replay-step : (es : List ℕ) (i : ℕ) (ws : List ℕ) → i < length es
     → replay (map gateOf (drop i es)) ws ≡ replay (map gateOf (drop (i + 1) es)) (cnot (gateOf (getD es i 0)) ws)
 replay-step es i ws h = rw (add-one, drop-cons es i 0) refl
 
-set-past : (ws : List ℕ) (q v : ℕ) → length ws ≤ q → set ws q v ≡ ws
-set-past [] q v h = refl
-set-past (w ∷ ws) zero v h = absurd (omega arith)
-set-past (w ∷ ws) (suc q) v h = ap (λ (l : List ℕ). w ∷ l) (set-past ws q v (omega arith))
-
-set-as-was : (ws : List ℕ) (q : ℕ) → set ws q (getD ws q 0) ≡ ws
-set-as-was [] q = refl
-set-as-was (w ∷ ws) zero = refl
-set-as-was (w ∷ ws) (suc q) = ap (λ (l : List ℕ). w ∷ l) (set-as-was ws q)
-
 -- a gate with an end past the words changes nothing
 pub cnot-past : (g : Gate) (ws : List ℕ) → (length ws ≤ g .0) ⊎ (length ws ≤ g .1) → cnot g ws ≡ ws
 cnot-past g ws (inl h) =
-    ap (λ (v : ℕ). set ws (g .1) (bitXor v (getD ws (g .1) 0))) (getD-past ws (g .0) h)
-    ∙ ap (set ws (g .1)) (xor-zero-l (getD ws (g .1) 0)) ∙ set-as-was ws (g .1)
+    ap (λ (v : ℕ). set ws (g .1) (bitXor v (getD ws (g .1) 0))) (getD-past ws (g .0) 0 h)
+    ∙ ap (set ws (g .1)) (xor-zero-l (getD ws (g .1) 0)) ∙ set-getD ws (g .1) 0
 cnot-past g ws (inr h) = set-past ws (g .1) _ h
 
 -- ---- entries

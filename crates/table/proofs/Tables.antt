@@ -2,15 +2,14 @@
 use mathlib.Core.Path.{_≡_, refl, sym, ap, ap₂, _∙_}
 use mathlib.Core.List.{List, map}
 use mathlib.Core.Bool.{Bool, true, false, cond}
-use Prim.Native.Nat.{ℕ, suc, _+_, _-_, _*_, _/_, _%_, _^_, _<_, _≤_}
-use native.Mathlib.Nat.{mod-lt, mod-eq-of-lt, suc-mul}
+use Prim.Native.Nat.{ℕ, _+_, _-_, _*_, _/_, _%_, _^_, _<_, _≤_}
+use native.Mathlib.Nat.{mod-lt, mod-eq-of-lt}
 use native.Mathlib.Omega.{arith}
 use lib.ListN.{length, getD, take, set, replicate, List·getD-map}
 use lib.Seq.{getD-take, take-set-lt, map-set}
 use lib.Pow.{pow-pos, pow-lt}
 use lib.Bits.{bitXor, bitAnd, xor-comm, xor-mod, and-mask}
 use Rattle.std.proofs.shelf.Lists.{length-map, length-take}
-use Rattle.std.proofs.shelf.Bits.{pow-add, shr-high}
 use Rattle.chip.specs.Layout.{Layout, Sound}
 use Rattle.parity.specs.Words.{Gate, cnot, fresh}
 use Rattle.parity.proofs.Words.{length-fresh, getD-fresh, take-fresh, fresh-from}
@@ -70,15 +69,3 @@ cnot-is l ws marks left c t hc ht =
         (xor-mod (getD ws t 0) (getD ws c 0) (l .places)
         ∙ xor-comm (getD ws t 0 % 2 ^ l .places) (getD ws c 0 % 2 ^ l .places)
         ∙ ap₂ bitXor (sym (getD-low (l .places) c ws hc)) (sym (getD-low (l .places) t ws ht)))
-
--- the highest word of 64 bits, shifted right until n bits are left
-pub low-bits-are : (n : ℕ) → n ≤ 64 → 18446744073709551615 / 2 ^ (64 - n) ≡ 2 ^ n - 1
-low-bits-are n h =
-    let p = pow-pos n in
-    let q = pow-pos (64 - n) in
-    let all : 64 ≡ n + (64 - n) = omega arith in
-    let whole : 2 ^ 64 ≡ 2 ^ n * 2 ^ (64 - n) = ap (λ (k : ℕ). 2 ^ k) all ∙ pow-add 2 n (64 - n) in
-    let one-more : 2 ^ n ≡ suc (2 ^ n - 1) = omega arith in
-    let parts : 2 ^ n * 2 ^ (64 - n) ≡ (2 ^ n - 1) * 2 ^ (64 - n) + 2 ^ (64 - n) = ap (λ (x : ℕ). x * 2 ^ (64 - n)) one-more ∙ suc-mul (2 ^ n - 1) (2 ^ (64 - n)) in
-    let sum : 18446744073709551615 ≡ (2 ^ n - 1) * 2 ^ (64 - n) + (2 ^ (64 - n) - 1) = omega arith in
-    ap (λ (x : ℕ). x / 2 ^ (64 - n)) sum ∙ shr-high (2 ^ n - 1) (64 - n) (2 ^ (64 - n) - 1) (omega arith)

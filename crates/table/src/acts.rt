@@ -1,6 +1,6 @@
 // The table machine as a chip and as a machine.
 ghost use mathlib.Core.Path.{_≡_};
-ghost use Prim.Native.Nat.{_-_, _^_, _≤_, _<_};
+ghost use Prim.Native.Nat.{_-_, _≤_, _<_};
 ghost use lib.ListN.{getD, set};
 ghost use lib.Bits.{bitXor};
 ghost use Rattle.machine.specs.Meaning.{new};
@@ -12,6 +12,7 @@ use machine::Machine;
 use machine::fault::MachineFault;
 use machine::marks::Marks;
 use parity::fresh_words;
+use parity::sets::all_below;
 
 // The gates that a new table machine takes.
 const ALLOWANCE: usize = 1_000_000;
@@ -57,7 +58,7 @@ impl<C: Chip> TableMachine<C> {
         requires { ⌜ q < C·Chip .layout (now self .chip) .places ⌝ }
         ensures { λ r. ⌜ r ≡ getD (tableMeaning (C·Chip .layout (now (self .entry) .chip)) (now (self .entry) .words) (now (self .entry) .service) (now (self .entry) .left) .words) q 0 ⌝ }
     {
-        self.words[q] & low_bits(self.chip.width())
+        self.words[q] & all_below(self.chip.width())
     }
 
     // Adds the word at place c into that at place t, for one gate of the allowance.
@@ -71,14 +72,6 @@ impl<C: Chip> TableMachine<C> {
         self.words[t] ^= self.words[c];
         self.left -= 1;
     }
-}
-
-// A word whose bits below n are set.
-fn low_bits(n: usize) -> u64
-    requires { ⌜ 1 ≤ n ⌝ ∗ ⌜ n ≤ 64 ⌝ }
-    ensures { λ r. ⌜ r ≡ 2 ^ n - 1 ⌝ }
-{
-    u64::MAX >> (64 - n)
 }
 
 pub impl<C: Chip> Chip for TableMachine<C> as TableIsChip {
