@@ -41,6 +41,14 @@ pub record Standing (adj : List ℕ) (live waiting : ℕ) (A B : List ℕ) : Typ
 abbrev pub Touched : List ℕ → List ℕ → List ℕ → ℕ → Type 0
 Touched adj xs A waiting = (v : ℕ) → bit waiting v ≡ 1 → (getD A v 0 ≡ getD xs v 0) ⊎ ((q : ℕ) → bit (getD A v 0) q ≡ 1 → Busy adj xs q)
 
+-- a wire that waits after w was served is another, and waited before
+still-waiting : (waiting w v : ℕ) → bit waiting w ≡ 1 → bit (bitXor waiting (2 ^ w)) v ≡ 1 → (v ≢ w) × (bit waiting v ≡ 1)
+still-waiting waiting w v hw o = elim (cases-eq v w) [
+  | inl e ↦ zero-one (bit (bitXor waiting (2 ^ w)) v) (ap (bit (bitXor waiting (2 ^ w))) e ∙ flip-off waiting w hw) o
+  | inr n ↦ (n, sym (flip-other waiting w v n) ∙ o)
+]
+
+-- a wire w that a round gave the place r
 module _ (adj A B A′ B′ : List ℕ) (live waiting w r : ℕ) (gs : List Gate) (g : Graph adj) (s : Standing adj live waiting A B)
     (below : waiting < 2 ^ length adj) (hw : bit waiting w ≡ 1) (lr : bit live r ≡ 1) (rn : r < length adj) (can-go : CanGo adj live r)
     (two : Each (TwoPlaces (length adj)) gs) (on-isl : Each (OnIsland adj live r) gs)
@@ -49,12 +57,6 @@ module _ (adj A B A′ B′ : List ℕ) (live waiting w r : ℕ) (gs : List Gate
     (told : Told adj live r) where
   wire : (v : ℕ) → bit waiting v ≡ 1 → v < length adj
   wire v o = place-below (length adj) waiting v below o
-
-  still-open : (v : ℕ) → bit (bitXor waiting (2 ^ w)) v ≡ 1 → (v ≢ w) × (bit waiting v ≡ 1)
-  still-open v o = elim (cases-eq v w) [
-    | inl e ↦ zero-one (bit (bitXor waiting (2 ^ w)) v) (ap (bit (bitXor waiting (2 ^ w))) e ∙ flip-off waiting w hw) o
-    | inr n ↦ (n, sym (flip-other waiting w v n) ∙ o)
-  ]
 
   paired′ : Paired (length adj) A′ B′
   paired′ = paired-moved (length adj) gs A B A′ B′ two moved duals-moved (s .paired)
@@ -119,7 +121,7 @@ module _ (adj A B A′ B′ : List ℕ) (live waiting w r : ℕ) (gs : List Gate
 
   pub touch : (xs : List ℕ) → ((q : ℕ) → Reach adj live r q → Busy adj xs q) → Touched adj xs A waiting → Touched adj xs A′ (bitXor waiting (2 ^ w))
   touch xs busy t v o =
-      let k = still-open v o in
+      let k = still-waiting waiting w v hw o in
       let p = place v (k .1) in
       elim (told (p .0)) [
         | inl i ↦ inr (λ q b. busy q (stays-on v (k .1) (p .0) (p .1) i q b))
@@ -134,11 +136,11 @@ module _ (adj A B A′ B′ : List ℕ) (live waiting w r : ℕ) (gs : List Gate
   pub retire : Standing adj (bitXor live (2 ^ r)) (bitXor waiting (2 ^ w)) A′ B′
   retire = record {
     paired = paired′;
-    alive = λ v o p b. let k = still-open v o in
+    alive = λ v o p b. let k = still-waiting waiting w v hw o in
         flip-other live r p (other v (k .0) (k .1) p b)
         ∙ acts-in (λ q. bit live q ≡ 1) gs (getD A v 0)
         (each-map (OnIsland adj live r) (λ h. bit live (h .0) ≡ 1) (λ h f. reach-live lr (f .0)) gs on-isl) (s .alive v (k .1)) p (was v p b);
-    on-island = λ v o. let k = still-open v o in on-island′ v (k .0) (k .1);
+    on-island = λ v o. let k = still-waiting waiting w v hw o in on-island′ v (k .0) (k .1);
     done = done′;
   }
 
@@ -155,12 +157,6 @@ module _ (adj A B : List ℕ) (live waiting w r : ℕ) (g : Graph adj) (s : Stan
     (single : getD A w 0 ≡ 2 ^ r)
     (others : (v : ℕ) → v < length A → (q : ℕ) → bit (getD A v 0) q ≡ 1 → Reach adj live r q → ones (getD A v 0) ≡ 1)
     (told : Told adj live r) where
-  rest-waiting : (v : ℕ) → bit (bitXor waiting (2 ^ w)) v ≡ 1 → (v ≢ w) × (bit waiting v ≡ 1)
-  rest-waiting v o = elim (cases-eq v w) [
-    | inl e ↦ zero-one (bit (bitXor waiting (2 ^ w)) v) (ap (bit (bitXor waiting (2 ^ w))) e ∙ flip-off waiting w hw) o
-    | inr n ↦ (n, sym (flip-other waiting w v n) ∙ o)
-  ]
-
   -- a set on the island has one place
   rest-one : (v : ℕ) → bit waiting v ≡ 1 → (p q : ℕ) → bit (getD A v 0) p ≡ 1 → Reach adj live r p → bit (getD A v 0) q ≡ 1 → p ≡ q
   rest-one v o p q a i b =
@@ -177,13 +173,13 @@ module _ (adj A B : List ℕ) (live waiting w r : ℕ) (g : Graph adj) (s : Stan
       ne (paired-apart (length adj) A B (s .paired) v w h (place-below (length adj) waiting w below hw) (x .1 ∙ ap (λ (m : ℕ). 2 ^ m) y ∙ sym single))
 
   pub rest-touch : (xs : List ℕ) → Touched adj xs A waiting → Touched adj xs A (bitXor waiting (2 ^ w))
-  rest-touch xs t v o = t v (rest-waiting v o .1)
+  rest-touch xs t v o = t v (still-waiting waiting w v hw o .1)
 
   pub rest : Standing adj (bitXor live (2 ^ r)) (bitXor waiting (2 ^ w)) A B
   rest = record {
     paired = s .paired;
-    alive = λ v o p b. let k = rest-waiting v o in flip-other live r p (rest-other v (k .0) (k .1) p b) ∙ s .alive v (k .1) p b;
-    on-island = λ v o p q a b. let k = rest-waiting v o in
+    alive = λ v o p b. let k = still-waiting waiting w v hw o in flip-other live r p (rest-other v (k .0) (k .1) p b) ∙ s .alive v (k .1) p b;
+    on-island = λ v o p q a b. let k = still-waiting waiting w v hw o in
         elim (told p) [
           | inl i ↦ subst (Reach adj (bitXor live (2 ^ r)) p) (rest-one v (k .1) p q a i b) here
           | inr nay ↦ reach-past r g (s .alive v (k .1) p a) nay (s .on-island v (k .1) p q a b)
