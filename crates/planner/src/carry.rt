@@ -10,7 +10,7 @@ use parity::sets::has;
 use parity::sets::lowest;
 
 // The places of the wires in each word: what a wire wants at its new place.
-pub fn carry_to_places(words: &[u64], at: &[usize], sets: &mut [u64])
+pub(crate) fn carry_to_places(words: &[u64], at: &[usize], sets: &mut [u64])
     requires lengths { ⌜ length (now words) ≡ length (now sets) ⌝ }
     requires places { ⌜ ((w : ℕ) → w < length (now at) → getD (now at) w 0 < 64) ⌝ ∗ ⌜ length (now at) ≤ 64 ⌝ }
     ensures { λ _. ⌜ now (sets .exit) ≡ map (places-of (now (at .entry))) (now (words .entry)) ⌝ }
@@ -35,7 +35,7 @@ fn places_of_wires(x: u64, at: &[usize]) -> u64
 }
 
 // Writes the lowest place of each set.
-pub fn lowest_of_each(sets: &[u64], at: &mut [usize])
+pub(crate) fn lowest_of_each(sets: &[u64], at: &mut [usize])
     requires { ⌜ length (now sets) ≤ length (now at) ⌝ }
     ensures { λ _. ⌜ Lowest (now (sets .entry)) (now (at .exit)) ⌝ }
 {

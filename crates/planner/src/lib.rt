@@ -1,7 +1,7 @@
 // The planner: gates on couplers in service that bring each word of a block to a place, or the truth that there are none.
 pub mod adjacency;
 pub mod block;
-pub mod carry;
+mod carry;
 pub mod fault;
 pub mod island;
 pub mod laws;

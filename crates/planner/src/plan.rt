@@ -91,7 +91,7 @@ pub fn plan_on<M: Machine>(
 }
 
 // Whether three sizes are one.
-pub fn one_size(a: usize, b: usize, c: usize) -> bool
+pub(crate) fn one_size(a: usize, b: usize, c: usize) -> bool
     ensures yes { λ r. ⌜ (r ≡ true → (b ≡ a) × (c ≡ a)) ⌝ }
     ensures no { λ r. ⌜ ((b ≡ a) × (c ≡ a) → r ≡ true) ⌝ }
 {
