@@ -1,4 +1,6 @@
 // A chip: qubits at places 0 to n - 1, and couplers that each join two of them.
+#![tactic(auto)]
+
 ghost use Rattle.std.specs.Prelude.{◌≡◌, length};
 ghost use Rattle.chip.specs.Answers.{answered};
 ghost use Rattle.chip.specs.Layout.{Layout, Sound, touches};

@@ -1,4 +1,6 @@
 // One line of a console script, read as a command.
+#![tactic(auto)]
+
 ghost use Rattle.std.specs.Prelude.{◌∷◌, MatchOption};
 ghost use Rattle.command.specs.Commands.{Says, Reads};
 ghost use Rattle.command.specs.Shapes.{shape, Unfilled};

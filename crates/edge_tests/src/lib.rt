@@ -1,4 +1,5 @@
 // Examples at the edges of chips, machines and play.
+#![tactic(auto)]
 #[cfg(test)]
 mod grids;
 #[cfg(test)]

@@ -1,4 +1,6 @@
 // Words and gates: what a CNOT does to the words at the places of a chip.
+#![tactic(auto)]
+
 ghost use Rattle.std.specs.Prelude.{◌≡◌, map};
 ghost use Rattle.parity.specs.Words.{fresh, cnot, gate_of, replay, Rereads};
 

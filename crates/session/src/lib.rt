@@ -1,4 +1,5 @@
 // Sessions: blocks of CNOTs turned into gates on couplers in service, and couplers taken out on passes.
+#![tactic(auto)]
 pub mod calls;
 pub mod flush;
 pub mod open;

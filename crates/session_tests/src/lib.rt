@@ -1,4 +1,5 @@
 // Sessions on machines of both kinds: passes, refusals, limits, and random runs beside a sheet of the tests' own.
+#![tactic(auto)]
 #[cfg(test)]
 mod crossing;
 #[cfg(test)]

@@ -1,3 +1,4 @@
 // The table machine: keeps the word at each place.
+#![tactic(auto)]
 pub mod acts;
 pub mod store;

@@ -13,12 +13,12 @@ use Rattle.islands.proofs.bring.Goals as goal
 
 pub gather-requires : goal.gather-requires
 gather-requires c =
-    let n = c.tree-order-n.result in
-    let t = c.tree-order-n.ensures.tree in
-    let h : n ≤ length c.tree-order-n.new.order = omega arith in
-    let len : length (take n c.tree-order-n.new.order) ≡ n = order_length t h in
+    let n = c.tree_order-n.result in
+    let t = c.tree_order-n.ensures.tree in
+    let h : n ≤ length c.tree_order-n.new.order = omega arith in
+    let len : length (take n c.tree_order-n.new.order) ≡ n = order_length t h in
     let some : 0 < n = t.some in
-    let few : n ≤ ones c.args.live = c.tree-order-n.ensures.no-more-than-live c.requires.alive in
+    let few : n ≤ ones c.args.live = c.tree_order-n.ensures.no_more_than_live c.requires.alive in
     record {
       some = (omega arith, c.requires.some);
       places = ((λ i l. let b = order_below t h i l in omega arith), omega arith);
@@ -32,13 +32,13 @@ returns c =
     let adj = c.args.adj.now in
     let live = c.args.live in
     let root = c.args.root in
-    let parent = c.tree-order-n.new.parent in
-    let n = c.tree-order-n.result in
-    let order = take n c.tree-order-n.new.order in
-    let t = c.tree-order-n.ensures.tree in
-    let h : n ≤ length c.tree-order-n.new.order = omega arith in
+    let parent = c.tree_order-n.new.parent in
+    let n = c.tree_order-n.result in
+    let order = take n c.tree_order-n.new.order in
+    let t = c.tree_order-n.ensures.tree in
+    let h : n ≤ length c.tree_order-n.new.order = omega arith in
     let len : length order ≡ n = order_length t h in
-    let few : n ≤ ones live = c.tree-order-n.ensures.no-more-than-live c.requires.alive in
+    let few : n ≤ ones live = c.tree_order-n.ensures.no_more_than_live c.requires.alive in
     let first = order_first t h in
     let e = c.gather.ensures in
     let gs = gates_in c.gather.new.out c.args.at c.gather.result in
@@ -49,7 +49,7 @@ returns c =
           (along_tree_two_places order parent (length adj) (parents_first t h) (order_below t h)) gs e.along_tree;
       on_edges = each_map (AlongTree order parent) (OnEdge adj) (along_tree_on_edge t h) gs e.along_tree;
       on_island = each_map (AlongTree order parent) (OnIsland adj live root) (along_tree_on_island t h c.requires.alive) gs e.along_tree;
-      spares-root = e.spares-all-but-children root (λ i i0 l z.
+      spares_root = e.spares_all_but_children root (λ i i0 l z.
           let a = order_at t h i l in
           let b : i ≡ 0 = t.once i 0 a.0 t.some (sym a.1 ∙ z ∙ sym t.first) in omega arith);
       delivers = λ ws k. ap (λ (m : ℕ). get_or (replay gs ws) m 0) (sym first)

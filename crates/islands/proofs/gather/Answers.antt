@@ -31,6 +31,6 @@ returns c =
       wrote = record { forward = g.forward; few = omega arith; front = g.front; back = g.back };
       gathered = gathering_done g end;
       along_tree = g.along_tree;
-      spares-all-but-children = g.spares;
+      spares_all_but_children = g.spares;
       delivers = λ ws b. single_places_deliver gs ws c.args.word (get_or order 0 0) (two (length ws) b) (gathering_done g end);
     }

@@ -27,8 +27,8 @@ returns-then-todo-eq0 c =
     let all : (q : ℕ) → bit seen q ≡ 1 → bit c.walk.done q ≡ 1 =
     λ q o. set_unless c.walk.done q (λ z. zero_one (bit c.without-todo.result q) (none q) (c.without-todo.ensures.all q o z)) in
     record {
-      only-reached = inv.2;
-      all-reached = λ q p. reach_closed c.args.adj.now c.args.live c.args.start seen inv.1 (λ a b h. inv.4 a b (all a h)) p;
+      only_reached = inv.2;
+      all_reached = λ q p. reach_closed c.args.adj.now c.args.live c.args.start seen inv.1 (λ a b h. inv.4 a b (all a h)) p;
     }
 
 pub bounds-adj-q : goal.bounds-adj-q
@@ -61,9 +61,9 @@ walk-preserved c =
     let inv = c.walk.invariant in
     let more = bit_and (get_or adj q 0) live in
     let low = c.lowest-q.ensures.below c.if-todo-eq0.false in
-    let grown : c.with-live-seen.result ≡ bit_or seen more = c.with-live-seen.ensures in
+    let grown : c.with_live-seen.result ≡ bit_or seen more = c.with_live-seen.ensures in
     let e : bit_xor d c.single-done.result ≡ bit_xor d (2 ^ q) = ap (bit_xor d) (c.single-done.ensures.place low) in
-    let kept : (r : ℕ) → bit seen r ≡ 1 → bit c.with-live-seen.result r ≡ 1 = λ r o. ap (λ z. bit z r) grown ∙ or_in_l seen more r o in (
+    let kept : (r : ℕ) → bit seen r ≡ 1 → bit c.with_live-seen.result r ≡ 1 = λ r o. ap (λ z. bit z r) grown ∙ or_in_l seen more r o in (
       subst (λ (x : ℕ). x < 2 ^ length adj) (sym grown)
           (or_lt (length adj) seen more inv.0 (lt_of_le_of_lt (and_le_r (get_or adj q 0) live) c.requires.inside.1)),
       kept c.args.start inv.1,

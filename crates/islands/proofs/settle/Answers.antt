@@ -15,8 +15,8 @@ returns-then-has c =
     let p = c.args.p in
     let x = c.args.x in
     let left : c.flip.result ≡ bit_xor x (2 ^ u) = c.flip.ensures.place c.requires.places.0 in
-    let wrote : c.write-gate-end.new.out ≡ set c.args.out.now c.args.k (entry (u, p)) = c.write-gate-end.ensures.wrote in
-    let counted : c.write-gate-end.result ≡ c.args.k + 1 = c.write-gate-end.ensures.counted in
+    let wrote : c.write_gate-end.new.out ≡ set c.args.out.now c.args.k (entry (u, p)) = c.write_gate-end.ensures.wrote in
+    let counted : c.write_gate-end.result ≡ c.args.k + 1 = c.write_gate-end.ensures.counted in
     simp (left, wrote, counted)
     (settled_one u p x c.args.k c.args.out.now c.requires.apart c.requires.places.1 (omega arith)
     (set_from x u c.if-not-has.ensures) (set_from x p c.if-has.ensures))
@@ -29,10 +29,10 @@ returns-else-has c =
     let k = c.args.k in
     let left : c.flip-else-has-2.result ≡ bit_xor (bit_xor x (2 ^ p)) (2 ^ u) =
     c.flip-else-has-2.ensures.place c.requires.places.0 ∙ ap (λ (y : ℕ). bit_xor y (2 ^ u)) (c.flip-else-has.ensures.place c.requires.places.1) in
-    let mid : c.write-gate-mid.result ≡ k + 1 = c.write-gate-mid.ensures.counted in
-    let wrote : c.write-gate-end-else-has.new.out ≡ set (set c.args.out.now k (entry (p, u))) (k + 1) (entry (u, p)) =
-    c.write-gate-end-else-has.ensures.wrote ∙ ap (λ (j : ℕ). set c.write-gate-mid.new.out j (entry (u, p))) mid ∙ ap (λ l. set l (k + 1) (entry (u, p))) c.write-gate-mid.ensures.wrote in
-    let counted : c.write-gate-end-else-has.result ≡ k + 2 = c.write-gate-end-else-has.ensures.counted ∙ ap (λ (j : ℕ). j + 1) mid ∙ omega arith in
+    let mid : c.write_gate-mid.result ≡ k + 1 = c.write_gate-mid.ensures.counted in
+    let wrote : c.write_gate-end-else-has.new.out ≡ set (set c.args.out.now k (entry (p, u))) (k + 1) (entry (u, p)) =
+    c.write_gate-end-else-has.ensures.wrote ∙ ap (λ (j : ℕ). set c.write_gate-mid.new.out j (entry (u, p))) mid ∙ ap (λ l. set l (k + 1) (entry (u, p))) c.write_gate-mid.ensures.wrote in
+    let counted : c.write_gate-end-else-has.result ≡ k + 2 = c.write_gate-end-else-has.ensures.counted ∙ ap (λ (j : ℕ). j + 1) mid ∙ omega arith in
     simp (left, wrote, counted)
     (settled_two u p x k c.args.out.now c.requires.apart c.requires.places.0 c.requires.places.1 (omega arith)
     (set_from x u c.if-not-has.ensures) (clear_from x p c.if-has.ensures))

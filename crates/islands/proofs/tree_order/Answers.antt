@@ -51,14 +51,14 @@ loop-head-preserved c =
     ap (bit_xor c.loop-head.seen) (c.single-seen-else-fresh-eq0.ensures.place (omega arith)) in (
       omega arith,
       omega arith,
-      simp (c.hang.ensures.placed, c.hang.ensures.below-its-parent, grown)
+      simp (c.hang.ensures.placed, c.hang.ensures.below_its_parent, grown)
           (growing_add c.loop-head.invariant.2 next c.loop-head-test.true (omega arith) (omega arith)),
     )
 
 pub returns : goal.returns
 returns c =
     record {
-      no-more-than-places = omega arith;
-      no-more-than-live = growing_few c.loop-head.invariant.2;
+      no_more_than_places = omega arith;
+      no_more_than_live = growing_few c.loop-head.invariant.2;
       tree = growing_done c.loop-head.invariant.2 c.loop-head-test.false;
     }

@@ -8,7 +8,7 @@ loop-e-preserved c =
     let es = c.args.entries.now in
     c.loop-e.invariant
     ∙ replay_step es c.loop-e.e-index c.loop-e.words c.loop-e-test.true
-    ∙ ap (replay (map gate_of (drop (c.loop-e.e-index + 1) es))) (sym c.apply-entry.ensures)
+    ∙ ap (replay (map gate_of (drop (c.loop-e.e-index + 1) es))) (sym c.apply_entry.ensures)
 
 pub returns : goal.returns
 returns c = sym (c.loop-e.invariant ∙ replay_done c.args.entries.now c.loop-e.e-index c.loop-e.words c.loop-e-test.false)

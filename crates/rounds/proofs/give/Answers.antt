@@ -7,8 +7,8 @@ use Rattle.islands.specs.Graphs.{here}
 use Rattle.rounds.proofs.Ways.{reach_trans, reach_back}
 use Rattle.rounds.proofs.give.Goals as goal
 
-pub island-of-island-requires : goal.island-of-island-requires
-island-of-island-requires c =
+pub island_of-island-requires : goal.island_of-island-requires
+island_of-island-requires c =
     let o = c.lowest-start.ensures.inside (dot_some (get_or c.args.wanted.now c.args.w 0) (get_or c.args.duals.now c.args.w 0) c.requires.paired) in
     let l = c.requires.alive c.lowest-start.result o in
     record {
@@ -16,23 +16,23 @@ island-of-island-requires c =
       inside = (place_below (length c.args.adj.now) c.args.live c.lowest-start.result c.requires.inside l, c.requires.inside);
     }
 
-pub returns-then-all-single-on : goal.returns-then-all-single-on
-returns-then-all-single-on c =
+pub returns-then-all_single_on : goal.returns-then-all_single_on
+returns-then-all_single_on c =
     let xs = c.args.wanted.now in
     let w = c.args.w in
     let start = c.lowest-start.result in
-    let isl = c.island-of-island.result in
+    let isl = c.island_of-island.result in
     let o = c.lowest-start.ensures.inside (dot_some (get_or xs w 0) (get_or c.args.duals.now w 0) c.requires.paired) in
     let l = c.requires.alive start o in
-    let yes = c.if-all-single-on.ensures.yes refl in
-    let s = single_place (get_or xs w 0) (yes w c.requires.wire.0 start o (c.island-of-island.ensures.all-reached start here)) in
+    let yes = c.if-all_single_on.ensures.yes refl in
+    let s = single_place (get_or xs w 0) (yes w c.requires.wire.0 start o (c.island_of-island.ensures.all-reached start here)) in
     let e : s.0 ≡ start = place_is s.0 start (ap (λ (x : ℕ). bit x start) (sym s.1) ∙ o) in
     record {
       below = place_below (length c.args.adj.now) c.args.live start c.requires.inside l;
       alive = l;
       told = λ q. elim (bit_cases isl q) [
-        | inl z ↦ inr (λ p. zero_one (bit isl q) z (c.island-of-island.ensures.all-reached q p))
-        | inr k ↦ inl (c.island-of-island.ensures.only-reached q k)
+        | inl z ↦ inr (λ p. zero_one (bit isl q) z (c.island_of-island.ensures.all-reached q p))
+        | inr k ↦ inl (c.island_of-island.ensures.only-reached q k)
       ];
       given = inl (record {
         sets = refl;
@@ -40,7 +40,7 @@ returns-then-all-single-on c =
         entries = refl;
         stays = refl;
         single = s.1 ∙ ap (λ (m : ℕ). 2 ^ m) e;
-        others = λ v h q b p. yes v h q b (c.island-of-island.ensures.all-reached q p);
+        others = λ v h q b p. yes v h q b (c.island_of-island.ensures.all-reached q p);
       });
     }
 
@@ -55,8 +55,8 @@ root-r-requires c =
       alive = l;
     }
 
-pub bring-both-end-requires : goal.bring-both-end-requires
-bring-both-end-requires c =
+pub bring_both-end-requires : goal.bring_both-end-requires
+bring_both-end-requires c =
     let start = c.lowest-start.result in
     let o = c.lowest-start.ensures.inside (dot_some (get_or c.args.wanted.now c.args.w 0) (get_or c.args.duals.now c.args.w 0) c.requires.paired) in
     record {
@@ -73,8 +73,8 @@ pub returns : goal.returns
 returns c =
     let start = c.lowest-start.result in
     let o = c.lowest-start.ensures.inside (dot_some (get_or c.args.wanted.now c.args.w 0) (get_or c.args.duals.now c.args.w 0) c.requires.paired) in
-    let e = c.bring-both-end.ensures in
-    let n = c.if-all-single-on.ensures.no refl in
+    let e = c.bring_both-end.ensures in
+    let n = c.if-all_single_on.ensures.no refl in
     let back = reach_back c.requires.graph (c.requires.alive start o) c.root-r.ensures.reached in
     record {
       below = c.root-r.ensures.below;
@@ -82,7 +82,7 @@ returns c =
       told = e.told;
       given = inr (record {
         can_go = c.root-r.ensures.can_go;
-        busy = (n.0, n.1, n.2, (n.3.0, n.3.1, reach_trans back (c.island-of-island.ensures.only-reached n.3.0 n.3.2)));
+        busy = (n.0, n.1, n.2, (n.3.0, n.3.1, reach_trans back (c.island_of-island.ensures.only-reached n.3.0 n.3.2)));
         round = e.both;
       });
     }

@@ -17,21 +17,21 @@ use Rattle.rounds.proofs.Ending.{start_standing, idle_planned, end_planned, plan
 use Rattle.rounds.proofs.plan.Goals as goal
 
 -- nothing to do
-pub returns-then-all-single : goal.returns-then-all-single
-returns-then-all-single c =
+pub returns-then-all_single : goal.returns-then-all_single
+returns-then-all_single c =
     let p = idle_planned c.args.adj.now c.args.wanted.now c.args.duals.now c.args.out.now c.requires.graph c.requires.lengths.0 c.requires.lengths.1 c.requires.sets_below c.requires.duals_below c.requires.paired
-    (c.if-all-single.ensures.yes refl) in
+    (c.if-all_single.ensures.yes refl) in
     record {
       planned = λ k e. (let z : 0 ≡ k = cc in
           subst (Planned c.args.adj.now c.args.wanted.now c.args.wanted.now c.args.duals.now c.args.duals.now c.args.out.now c.args.out.now) z p);
       refused = λ e. absurd (let z : ◌≡◌ {A = ℕ} 0 1 = cc in omega arith);
       exact = planned_exact c.args.adj.now c.args.wanted.now c.args.wanted.now c.args.duals.now c.args.duals.now c.args.out.now c.args.out.now 0 p;
-      nothing-touched = λ e. absurd (let z : ◌≡◌ {A = ℕ} 0 1 = cc in omega arith);
+      nothing_touched = λ e. absurd (let z : ◌≡◌ {A = ℕ} 0 1 = cc in omega arith);
     }
 
 -- no way
-pub first-straddling-requires : goal.first-straddling-requires
-first-straddling-requires c = record {
+pub first_straddling-requires : goal.first_straddling-requires
+first_straddling-requires c = record {
   small = c.requires.small;
   graph = c.requires.graph;
   below = c.requires.sets_below;
@@ -40,14 +40,14 @@ first-straddling-requires c = record {
 
 pub returns-in-Some : goal.returns-in-Some
 returns-in-Some c =
-    let s = c.first-straddling.ensures.straddles c.in-Some.field-0 c.in-Some.is in
+    let s = c.first_straddling.ensures.straddles c.in-Some.field-0 c.in-Some.is in
     let f = straddling_refused c.args.adj.now c.args.wanted.now c.requires.graph
     (c.in-Some.field-0, subst (λ (m : ℕ). c.in-Some.field-0 < m) c.requires.lengths.0 s.below, s.straddles) in
     record {
       planned = λ k e. absurd (let z : ◌≡◌ {A = ℕ} 0 1 = cc in omega arith);
       refused = λ _. f;
       exact = refused_exact c.args.adj.now c.args.wanted.now f;
-      nothing-touched = λ _. (refl, refl, refl);
+      nothing_touched = λ _. (refl, refl, refl);
     }
 
 -- the rounds
@@ -55,8 +55,8 @@ pub loop-waiting-init : goal.loop-waiting-init
 loop-waiting-init c =
     let adj = c.args.adj.now in
     let n = length adj in
-    let live = c.all-below-live.result in
-    let e = c.all-below-live.ensures.places c.requires.small in
+    let live = c.all_below-live.result in
+    let e = c.all_below-live.ensures.places c.requires.small in
     let below : live < 2 ^ n = subst (λ (x : ℕ). x < 2 ^ n) (sym e) (all_below_low n) in
     let k : ones live ≡ n = ap ones e ∙ ones-ones n in
     let none = gates_in_none c.args.out.now 0 in
@@ -80,8 +80,8 @@ give-r-requires c =
     let live = c.loop-waiting.live in
     let k = c.loop-waiting.invariant in
     let s = k.standing in
-    let w = c.next-wire-w.result in
-    let o = c.next-wire-w.ensures in
+    let w = c.next_wire-w.result in
+    let o = c.next_wire-w.ensures in
     let h = place_below (length adj) c.loop-waiting.waiting w k.waiting_below o in
     let x = get_or c.loop-waiting.wanted w 0 in
     let p = some_place x (dot_some x (get_or c.loop-waiting.duals w 0) (s.paired.own w h)) in
@@ -99,9 +99,9 @@ give-r-requires c =
 
 pub loop-waiting-smaller : goal.loop-waiting-smaller
 loop-waiting-smaller c =
-    let h = place_below (length c.args.adj.now) c.loop-waiting.waiting c.next-wire-w.result c.loop-waiting.invariant.waiting_below c.next-wire-w.ensures in
+    let h = place_below (length c.args.adj.now) c.loop-waiting.waiting c.next_wire-w.result c.loop-waiting.invariant.waiting_below c.next_wire-w.ensures in
     subst (λ (x : ℕ). bit_xor c.loop-waiting.waiting x < c.loop-waiting.waiting) (sym (c.single-waiting.ensures.place (omega (arith, c.requires.small))))
-    (flip_less c.loop-waiting.waiting c.next-wire-w.result c.next-wire-w.ensures)
+    (flip_less c.loop-waiting.waiting c.next_wire-w.result c.next_wire-w.ensures)
 
 pub loop-waiting-preserved : goal.loop-waiting-preserved
 loop-waiting-preserved c =
@@ -112,18 +112,18 @@ loop-waiting-preserved c =
     let A = c.give-r.new.wanted in
     let B = c.give-r.new.duals in
     let out = c.give-r.new.out in
-    let w = c.next-wire-w.result in
+    let w = c.next_wire-w.result in
     let r = c.give-r.result.0 in
     let end = c.give-r.result.1 in
     let e = c.give-r.ensures in
-    let h = place_below (length adj) waiting w c.loop-waiting.invariant.waiting_below c.next-wire-w.ensures in
+    let h = place_below (length adj) waiting w c.loop-waiting.invariant.waiting_below c.next_wire-w.ensures in
     let b : r < length adj = e.below in
     subst (λ (x : ℕ). Kept adj xs c.args.duals.now c.args.out.now (bit_xor live x) (bit_xor waiting c.single-waiting.result) A B out end)
     (sym (c.single-live.ensures.place (omega (arith, c.requires.small))))
     (subst (λ (x : ℕ). Kept adj xs c.args.duals.now c.args.out.now (bit_xor live (2 ^ r)) (bit_xor waiting x) A B out end)
     (sym (c.single-waiting.ensures.place (omega (arith, c.requires.small))))
     (kept_given adj xs c.args.duals.now c.args.out.now live waiting w r c.loop-waiting.wanted A c.loop-waiting.duals B c.loop-waiting.out out c.loop-waiting.at end
-    c.requires.graph c.loop-waiting.invariant (c.loop-waiting.auto.wanted ∙ c.requires.lengths.0) (omega arith) c.next-wire-w.ensures e.below e.alive e.told e.given))
+    c.requires.graph c.loop-waiting.invariant (c.loop-waiting.auto.wanted ∙ c.requires.lengths.0) (omega arith) c.next_wire-w.ensures e.below e.alive e.told e.given))
 
 -- each wire has its place
 pub returns : goal.returns
@@ -134,11 +134,11 @@ returns c =
     let p = end_planned adj xs c.loop-waiting.wanted c.args.duals.now c.loop-waiting.duals c.args.out.now c.loop-waiting.out c.loop-waiting.live c.loop-waiting.waiting at
     c.requires.graph c.requires.lengths.0 c.requires.lengths.1 c.requires.duals_below c.loop-waiting.auto.wanted c.loop-waiting.auto.duals c.loop-waiting-test.false c.loop-waiting.invariant
     (λ w h. c.in-None.ensures.none refl w (subst (λ (m : ℕ). w < m) (sym c.requires.lengths.0) h))
-    (λ one. absurd (both_ways c.all_single.result c.if-all-single.false (c.all_single.ensures.no (λ w h. one w (subst (λ (m : ℕ). w < m) c.requires.lengths.0 h))))) in
+    (λ one. absurd (both_ways c.all_single.result c.if-all_single.false (c.all_single.ensures.no (λ w h. one w (subst (λ (m : ℕ). w < m) c.requires.lengths.0 h))))) in
     record {
       planned = λ k e. (let z : at ≡ k = cc in
           subst (Planned adj xs c.loop-waiting.wanted c.args.duals.now c.loop-waiting.duals c.args.out.now c.loop-waiting.out) z p);
       refused = λ e. absurd (let z : ◌≡◌ {A = ℕ} 0 1 = cc in omega arith);
       exact = planned_exact adj xs c.loop-waiting.wanted c.args.duals.now c.loop-waiting.duals c.args.out.now c.loop-waiting.out at p;
-      nothing-touched = λ e. absurd (let z : ◌≡◌ {A = ℕ} 0 1 = cc in omega arith);
+      nothing_touched = λ e. absurd (let z : ◌≡◌ {A = ℕ} 0 1 = cc in omega arith);
     }

@@ -17,7 +17,7 @@ returns g c =
     let start = state c.args.session (g.M.Chip.layout c.args.machine.now) (g.M.Machine.meaning c.args.machine.now) in
     let end = bench c.run.new.session (g.M.Chip.layout c.run.new.machine) (g.M.Machine.meaning c.run.new.machine) c.run.new.slots c.run.new.buffer in
     record {
-      same-orders = c.run.ensures.same-orders;
+      same_orders = c.run.ensures.same_orders;
       ends = record {
         last = end.state.session;
         slots = c.run.new.slots;

@@ -9,7 +9,7 @@ use Rattle.command.proofs.words.front.Goals as goal
 pub loop-i-preserved : goal.loop-i-preserved
 loop-i-preserved c =
     All-more (λ b. blank b ≡ c.args.blanks) c.args.line.now c.loop-i.i 0 c.loop-i-test.true c.loop-i.invariant
-    (sym c.is-blank.ensures ∙ same_answer c.is-blank.result c.args.blanks c.if-is-blank-blanks.false)
+    (sym c.is_blank.ensures ∙ same_answer c.is_blank.result c.args.blanks c.if-is_blank-blanks.false)
 
 pub returns : goal.returns
 returns c =

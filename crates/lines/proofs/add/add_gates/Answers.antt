@@ -9,7 +9,7 @@ loop-entry-preserved c =
     let xs = c.args.entries.now in
     let i = c.loop-entry.entry-index in
     let h : i < length xs = omega arith in
-    c.in-ok-add-gate.ensures
+    c.in_ok-add_gate.ensures
     ∙ ap (λ (l : List ℕ). l ++ (λ (e : ℕ). spaced_gate (gate_of e)) (get_or xs i 0)) c.loop-entry.invariant
     ∙ texts_more (λ (e : ℕ). spaced_gate (gate_of e)) (string_bytes c.args.line.now) xs i 0 h
 

@@ -8,7 +8,7 @@ loop-place-preserved c =
     let xs = c.args.places.now in
     let i = c.loop-place.place-index in
     let h : i < length xs = omega arith in
-    c.in-ok-add-number.ensures
+    c.in_ok-add_number.ensures
     ∙ ap (λ (l : List ℕ). l ++ spaced_number (get_or xs i 0)) c.loop-place.invariant
     ∙ texts_more spaced_number (string_bytes c.args.line.now) xs i 0 h
 

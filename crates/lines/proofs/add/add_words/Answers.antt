@@ -8,7 +8,7 @@ loop-word-preserved c =
     let xs = c.args.words.now in
     let i = c.loop-word.word-index in
     let h : i < length xs = omega arith in
-    c.in-ok-add-number.ensures
+    c.in_ok-add_number.ensures
     ∙ ap (λ (l : List ℕ). l ++ spaced_number (get_or xs i 0)) c.loop-word.invariant
     ∙ texts_more spaced_number (string_bytes c.args.line.now) xs i 0 h
 

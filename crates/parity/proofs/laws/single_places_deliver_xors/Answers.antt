@@ -2,4 +2,4 @@ use Rattle.parity.proofs.Gates.{xors_survive_gate, xors_survive_gates, single_pl
 use Rattle.parity.proofs.laws.single_places_deliver_xors.Goals as goal
 
 pub returns : goal.returns
-returns c = record { one-gate = xors_survive_gate; all-gates = xors_survive_gates; delivered = single_places_deliver }
+returns c = record { one_gate = xors_survive_gate; all_gates = xors_survive_gates; delivered = single_places_deliver }

@@ -9,12 +9,12 @@ use Rattle.planner.specs.Views.{neighbours_of, words_of, duals_of, places_of, Pl
 use Rattle.planner.proofs.Asking.{neighbours_length, neighbours_graph, words_length, duals_length, words_below, duals_below, block_paired, places_placement, first_of_64, ok_same}
 use Rattle.planner.proofs.plan.plan.Goals as goal
 
-pub plan-lists-requires : goal.plan-lists-requires
-plan-lists-requires c =
+pub plan_lists-requires : goal.plan_lists-requires
+plan_lists-requires c =
     let a = c.args.adjacency.now in
     let b = c.args.block.now in
     let p = c.args.places.now in
-    let s = c.if-not-one-size.ensures.yes refl in
+    let s = c.if-not-one_size.ensures.yes refl in
     let l = neighbours_length a in
     let f : a.n ≤ 64 = a.few in
     let same-b : length (neighbours_of a) ≡ b.n = l ∙ sym s.0 in
@@ -32,15 +32,15 @@ plan-lists-requires c =
     }
 
 -- the plan that was found, over n in place of the length of the adjacency
-pub invariant-of-result : goal.invariant-of-result
-invariant-of-result c =
+pub invariant_of-result : goal.invariant_of-result
+invariant_of-result c =
     let a = c.args.adjacency.now in
-    let s = c.if-not-one-size.ensures.yes refl in
-    let found = subst (λ (m : ℕ). PlanIn (OnEdge (neighbours_of a)) m (words_of c.args.block.now) (places_of c.args.places.now) c.args.out.now c.plan-lists.new.out c.in-Some.gates (take m c.plan-lists.new.new))
-    (neighbours_length a) (c.plan-lists.ensures.planned c.in-Some.gates c.in-Some.is) in
-    let new = c.plan-lists.new.new in
+    let s = c.if-not-one_size.ensures.yes refl in
+    let found = subst (λ (m : ℕ). PlanIn (OnEdge (neighbours_of a)) m (words_of c.args.block.now) (places_of c.args.places.now) c.args.out.now c.plan_lists.new.out c.in-Some.gates (take m c.plan_lists.new.new))
+    (neighbours_length a) (c.plan_lists.ensures.planned c.in-Some.gates c.in-Some.is) in
+    let new = c.plan_lists.new.new in
     let placed = found.reaches.placed in (
-      c.plan-lists.auto.new,
+      c.plan_lists.auto.new,
       (
         omega (arith, c.args.block.now.some, s.0),
         (
@@ -56,35 +56,35 @@ invariant-of-result c =
 pub returns-in-Some : goal.returns-in-Some
 returns-in-Some c =
     let a = c.args.adjacency.now in
-    let s = c.if-not-one-size.ensures.yes refl in
+    let s = c.if-not-one_size.ensures.yes refl in
     let enough : room a.n ≤ length c.args.out.now = c.if-out-needed.false in
-    let found = subst (λ (m : ℕ). PlanIn (OnEdge (neighbours_of a)) m (words_of c.args.block.now) (places_of c.args.places.now) c.args.out.now c.plan-lists.new.out c.in-Some.gates (take m c.plan-lists.new.new))
-    (neighbours_length a) (c.plan-lists.ensures.planned c.in-Some.gates c.in-Some.is) in
+    let found = subst (λ (m : ℕ). PlanIn (OnEdge (neighbours_of a)) m (words_of c.args.block.now) (places_of c.args.places.now) c.args.out.now c.plan_lists.new.out c.in-Some.gates (take m c.plan_lists.new.new))
+    (neighbours_length a) (c.plan_lists.ensures.planned c.in-Some.gates c.in-Some.is) in
     record {
-      planned = λ p e. subst (λ (z : Planned). (z.places.n ≡ a.n) × PlanFor a c.args.block.now c.args.places.now c.args.out.now c.plan-lists.new.out z.gates (places_of z.places))
+      planned = λ p e. subst (λ (z : Planned). (z.places.n ≡ a.n) × PlanFor a c.args.block.now c.args.places.now c.args.out.now c.plan_lists.new.out z.gates (places_of z.places))
           (ok_same e) (refl, found);
       unreachable_exactly = (
         (λ e. absurd (let z : ◌≡◌ {A = ℕ} 0 1 = cc in omega arith)),
-        (λ t. absurd (t.2 (gates_in c.plan-lists.new.out 0 c.in-Some.gates) (take a.n c.plan-lists.new.new) found.reaches)),
+        (λ t. absurd (t.2 (gates_in c.plan_lists.new.out 0 c.in-Some.gates) (take a.n c.plan_lists.new.new) found.reaches)),
       );
-      needs-two-islands = λ e. absurd (let z : ◌≡◌ {A = ℕ} 0 1 = cc in omega arith);
-      short-exactly = λ needed. ((λ e. absurd (let z : ◌≡◌ {A = ℕ} 0 1 = cc in omega arith)), (λ t. absurd (let h = t.1 in omega arith)));
-      mismatch-exactly = ((λ e. absurd (let z : ◌≡◌ {A = ℕ} 0 1 = cc in omega arith)), (λ no. absurd (no (s.0, s.1))));
-      refused-untouched = λ f e. absurd (let z : ◌≡◌ {A = ℕ} 0 1 = cc in omega arith);
+      needs_two_islands = λ e. absurd (let z : ◌≡◌ {A = ℕ} 0 1 = cc in omega arith);
+      short_exactly = λ needed. ((λ e. absurd (let z : ◌≡◌ {A = ℕ} 0 1 = cc in omega arith)), (λ t. absurd (let h = t.1 in omega arith)));
+      mismatch_exactly = ((λ e. absurd (let z : ◌≡◌ {A = ℕ} 0 1 = cc in omega arith)), (λ no. absurd (no (s.0, s.1))));
+      refused_untouched = λ f e. absurd (let z : ◌≡◌ {A = ℕ} 0 1 = cc in omega arith);
     }
 
 pub returns-in-None : goal.returns-in-None
 returns-in-None c =
     let a = c.args.adjacency.now in
-    let s = c.if-not-one-size.ensures.yes refl in
+    let s = c.if-not-one_size.ensures.yes refl in
     let enough : room a.n ≤ length c.args.out.now = c.if-out-needed.false in
     let none = subst (λ (m : ℕ). NoPlan (OnEdge (neighbours_of a)) m (words_of c.args.block.now) (places_of c.args.places.now))
-    (neighbours_length a) (c.plan-lists.ensures.unreachable c.in-None.is) in
+    (neighbours_length a) (c.plan_lists.ensures.unreachable c.in-None.is) in
     record {
       planned = λ p e. absurd (let z : ◌≡◌ {A = ℕ} 0 1 = cc in omega arith);
       unreachable_exactly = ((λ _. ((s.0, s.1), enough, none)), (λ _. refl));
-      needs-two-islands = λ _. c.plan-lists.ensures.needs-two-islands c.in-None.is;
-      short-exactly = λ needed. ((λ e. absurd (let z : ◌≡◌ {A = ℕ} 0 1 = cc in omega arith)), (λ t. absurd (let h = t.1 in omega arith)));
-      mismatch-exactly = ((λ e. absurd (let z : ◌≡◌ {A = ℕ} 0 1 = cc in omega arith)), (λ no. absurd (no (s.0, s.1))));
-      refused-untouched = λ f e. c.plan-lists.ensures.untouched c.in-None.is;
+      needs_two_islands = λ _. c.plan_lists.ensures.needs_two_islands c.in-None.is;
+      short_exactly = λ needed. ((λ e. absurd (let z : ◌≡◌ {A = ℕ} 0 1 = cc in omega arith)), (λ t. absurd (let h = t.1 in omega arith)));
+      mismatch_exactly = ((λ e. absurd (let z : ◌≡◌ {A = ℕ} 0 1 = cc in omega arith)), (λ no. absurd (no (s.0, s.1))));
+      refused_untouched = λ f e. c.plan_lists.ensures.untouched c.in-None.is;
     }

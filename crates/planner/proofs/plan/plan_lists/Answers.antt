@@ -15,15 +15,15 @@ plan-requires c =
     let ws = c.args.words.now in
     let ds = c.args.duals.now in
     let old = c.args.old.now in
-    let e = c.carry-both.ensures.wanted in
-    let f = c.carry-both.ensures.against in
+    let e = c.carry_both.ensures.wanted in
+    let f = c.carry_both.ensures.against in
     record {
       small = c.requires.small;
       graph = c.requires.graph;
       lengths = (ap length e ∙ length-map ws (wires_to_places old) ∙ c.requires.lengths.0, ap length f ∙ length-map ds (wires_to_places old) ∙ c.requires.lengths.1);
       sets_below = λ w. subst (λ (l : List ℕ). get_or l w 0 < 2 ^ n) (sym e) (wanted_below n ws old c.requires.placed c.requires.below w);
       duals_below = λ w. subst (λ (l : List ℕ). get_or l w 0 < 2 ^ n) (sym f) (wanted_below n ds old c.requires.placed c.requires.duals_below w);
-      paired = subst (λ (l : List ℕ). Paired n l c.carry-both.new.against) (sym e)
+      paired = subst (λ (l : List ℕ). Paired n l c.carry_both.new.against) (sym e)
           (subst (Paired n (map (wires_to_places old) ws)) (sym f) (wanted_paired n ws old c.requires.placed c.requires.below ds c.requires.paired));
       room = c.requires.room.0;
     }
@@ -35,29 +35,29 @@ returns-in-Some c =
     let ws = c.args.words.now in
     let old = c.args.old.now in
     let ys = c.plan.new.wanted in
-    let e = c.carry-both.ensures.wanted in
+    let e = c.carry_both.ensures.wanted in
     let k = c.in-Some.gates in
-    let pl = subst (λ (xs : List ℕ). Planned adj xs ys c.carry-both.new.against c.plan.new.duals c.args.out.now c.plan.new.out k) e
+    let pl = subst (λ (xs : List ℕ). Planned adj xs ys c.carry_both.new.against c.plan.new.duals c.args.out.now c.plan.new.out k) e
     (c.plan.ensures.planned k c.in-Some.is) in
     let leny : length ys ≡ n = c.plan.auto.wanted ∙ ap length e ∙ length-map ws (wires_to_places old) ∙ c.requires.lengths.0 in
-    let found = planned_in n ws old c.requires.placed c.requires.below adj ys c.carry-both.new.against c.plan.new.duals c.args.out.now c.plan.new.out c.lowest-of-each.new.at k
-    refl c.requires.small leny pl c.lowest-of-each.ensures in
+    let found = planned_in n ws old c.requires.placed c.requires.below adj ys c.carry_both.new.against c.plan.new.duals c.args.out.now c.plan.new.out c.lowest_of_each.new.at k
+    refl c.requires.small leny pl c.lowest_of_each.ensures in
     record {
       planned = λ j z. (let q : k ≡ j = cc in
-          subst (λ (m : ℕ). PlanIn (OnEdge adj) n ws old c.args.out.now c.plan.new.out m (take n c.lowest-of-each.new.at)) q found);
+          subst (λ (m : ℕ). PlanIn (OnEdge adj) n ws old c.args.out.now c.plan.new.out m (take n c.lowest_of_each.new.at)) q found);
       unreachable = λ z. absurd (let q : ◌≡◌ {A = ℕ} 0 1 = cc in omega arith);
-      needs-two-islands = λ z. absurd (let q : ◌≡◌ {A = ℕ} 0 1 = cc in omega arith);
+      needs_two_islands = λ z. absurd (let q : ◌≡◌ {A = ℕ} 0 1 = cc in omega arith);
       untouched = λ z. absurd (let q : ◌≡◌ {A = ℕ} 0 1 = cc in omega arith);
     }
 
 pub returns-in-None : goal.returns-in-None
 returns-in-None c =
     let adj = c.args.adj.now in
-    let e = c.carry-both.ensures.wanted in
+    let e = c.carry_both.ensures.wanted in
     let refused = subst (Refused adj) e (c.plan.ensures.refused c.in-None.is) in
     record {
       planned = λ j z. absurd (let q : ◌≡◌ {A = ℕ} 0 1 = cc in omega arith);
       unreachable = λ _. refused_none (length adj) c.args.words.now c.args.old.now c.requires.placed c.requires.below adj c.requires.graph refl refused;
-      needs-two-islands = λ _. refused_some (length adj) c.args.words.now c.args.old.now c.requires.placed c.requires.below adj refused;
+      needs_two_islands = λ _. refused_some (length adj) c.args.words.now c.args.old.now c.requires.placed c.requires.below adj refused;
       untouched = λ _. (c.plan.ensures.nothing-touched c.in-None.is).2;
     }

@@ -28,8 +28,8 @@ returns g c =
       ));
       unreachable_exactly = subst (λ (n : ℕ). (c.plan.result ≡ Err Unreachable) ↔ (SizesAre n b p × (room n ≤ length before) × NoPlan (OnCoupler l service) n (words_of b) (places_of p))) same
           ((λ z. let t = e.unreachable_exactly.0 z in (t.0, t.1, no.0 t.2)), (λ t. e.unreachable_exactly.1 (t.0, t.1, no.1 t.2)));
-      needs-two-islands = λ z. some_over l service (neighbours_of a) (words_of b) (places_of p) s (e.needs-two-islands z);
-      short-exactly = λ needed. subst (λ (n : ℕ). (c.plan.result ≡ Err (BufferTooShort needed)) ↔ (SizesAre n b p × (length before < room n) × (needed ≡ room n))) same (e.short-exactly needed);
-      mismatch-exactly = subst (λ (n : ℕ). (c.plan.result ≡ Err SizeMismatch) ↔ (SizesAre n b p → ⊥)) same e.mismatch-exactly;
-      refused-untouched = e.refused-untouched;
+      needs_two_islands = λ z. some_over l service (neighbours_of a) (words_of b) (places_of p) s (e.needs_two_islands z);
+      short_exactly = λ needed. subst (λ (n : ℕ). (c.plan.result ≡ Err (BufferTooShort needed)) ↔ (SizesAre n b p × (length before < room n) × (needed ≡ room n))) same (e.short_exactly needed);
+      mismatch_exactly = subst (λ (n : ℕ). (c.plan.result ≡ Err SizeMismatch) ↔ (SizesAre n b p → ⊥)) same e.mismatch_exactly;
+      refused_untouched = e.refused_untouched;
     }

@@ -7,13 +7,13 @@ use Rattle.planner.proofs.Carrying.{some_carried}
 use Rattle.planner.proofs.Planning.{wanted_at, wanted_below}
 use Rattle.planner.proofs.reason.first_in_lists.Goals as goal
 
-pub first-straddling-requires : goal.first-straddling-requires
-first-straddling-requires c =
+pub first_straddling-requires : goal.first_straddling-requires
+first_straddling-requires c =
     let n = length c.args.adj.now in
     let ws = c.args.words.now in
     let at = c.args.at.now in
-    let e = c.carry-to-places.ensures in
-    let len : length c.carry-to-places.new.sets ≡ n = ap length e ∙ length-map ws (wires_to_places at) ∙ c.requires.lengths.0 in
+    let e = c.carry_to_places.ensures in
+    let len : length c.carry_to_places.new.sets ≡ n = ap length e ∙ length-map ws (wires_to_places at) ∙ c.requires.lengths.0 in
     record {
       small = c.requires.small;
       graph = c.requires.graph;
@@ -29,9 +29,9 @@ returns c =
     let adj = c.args.adj.now in
     let ws = c.args.words.now in
     let at = c.args.at.now in
-    let e = c.carry-to-places.ensures in
-    let len : length c.carry-to-places.new.sets ≡ length adj = ap length e ∙ length-map ws (wires_to_places at) ∙ c.requires.lengths.0 in
+    let e = c.carry_to_places.ensures in
+    let len : length c.carry_to_places.new.sets ≡ length adj = ap length e ∙ length-map ws (wires_to_places at) ∙ c.requires.lengths.0 in
     record {
-      first = λ w z. subst (λ (l : List ℕ). FirstStraddling adj l w) e (c.first-straddling.ensures.straddles w z);
-      none = λ z w h. subst (λ (l : List ℕ). OneIsland adj (get_or l w 0)) e (c.first-straddling.ensures.none z w (omega arith));
+      first = λ w z. subst (λ (l : List ℕ). FirstStraddling adj l w) e (c.first_straddling.ensures.straddles w z);
+      none = λ z w h. subst (λ (l : List ℕ). OneIsland adj (get_or l w 0)) e (c.first_straddling.ensures.none z w (omega arith));
     }

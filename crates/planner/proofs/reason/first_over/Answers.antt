@@ -10,21 +10,21 @@ use Rattle.planner.proofs.Planning.{wanted_at}
 use Rattle.planner.proofs.Couplers.{straddles_over, one_island_over}
 use Rattle.planner.proofs.reason.first_over.Goals as goal
 
-pub returns-then-not-one-size : goal.returns-then-not-one-size
-returns-then-not-one-size g c =
+pub returns-then-not-one_size : goal.returns-then-not-one_size
+returns-then-not-one_size g c =
     let a = c.args.adjacency.now in
     let same : a.n ≡ (g.M.Chip.layout c.args.machine.now).places = sym (neighbours_length a) ∙ c.requires.shows.places in
     record {
       first = λ w z. absurd (let q : ◌≡◌ {A = ℕ} 0 1 = cc in omega arith);
-      none = λ _ t. absurd (both_ways c.one-size.result c.if-not-one-size.true (c.one-size.ensures.no (t.0 ∙ sym same, t.1 ∙ sym same)));
+      none = λ _ t. absurd (both_ways c.one_size.result c.if-not-one_size.true (c.one_size.ensures.no (t.0 ∙ sym same, t.1 ∙ sym same)));
     }
 
-pub first-in-lists-requires : goal.first-in-lists-requires
-first-in-lists-requires g c =
+pub first_in_lists-requires : goal.first_in_lists-requires
+first_in_lists-requires g c =
     let a = c.args.adjacency.now in
     let b = c.args.block.now in
     let p = c.args.places.now in
-    let s = c.if-not-one-size.ensures.yes refl in
+    let s = c.if-not-one_size.ensures.yes refl in
     let l = neighbours_length a in
     let f : a.n ≤ 64 = a.few in
     let same-b : length (neighbours_of a) ≡ b.n = l ∙ sym s.0 in
@@ -47,17 +47,17 @@ returns g c =
     let p = c.args.places.now in
     let adj = neighbours_of a in
     let shows = c.requires.shows in
-    let s = c.if-not-one-size.ensures.yes refl in
+    let s = c.if-not-one_size.ensures.yes refl in
     let same : length (map (wires_to_places (places_of p)) (words_of b)) ≡ l.places =
     length-map (words_of b) (wires_to_places (places_of p)) ∙ words_length b ∙ s.0 ∙ sym (neighbours_length a) ∙ shows.places in
     let at : (w : ℕ) → get_or (map (wires_to_places (places_of p)) (words_of b)) w 0 ≡ wires_to_places (places_of p) (get_or (words_of b) w 0) =
     λ w. wanted_at p.n (words_of b) (places_of p) (places_placement p) (subst (λ (m : ℕ). (v : ℕ) → v < m → get_or (words_of b) v 0 < 2 ^ m) (s.0 ∙ sym s.1) (words_below b)) w in
     record {
-      first = λ w z. (let t = c.first-in-lists.ensures.first w z in record {
+      first = λ w z. (let t = c.first_in_lists.ensures.first w z in record {
         below = subst (λ (m : ℕ). w < m) same t.below;
         on_two = straddles_over l service adj (wires_to_places (places_of p) (get_or (words_of b) w 0)) shows (subst (Straddles adj) (at w) t.straddles);
         before = λ v h. one_island_over l service adj (wires_to_places (places_of p) (get_or (words_of b) v 0)) shows (subst (OneIsland adj) (at v) (t.before v h));
       });
       none = λ z t w h. one_island_over l service adj (wires_to_places (places_of p) (get_or (words_of b) w 0)) shows
-          (subst (OneIsland adj) (at w) (c.first-in-lists.ensures.none z w (subst (λ (m : ℕ). w < m) (sym shows.places) h)));
+          (subst (OneIsland adj) (at w) (c.first_in_lists.ensures.none z w (subst (λ (m : ℕ). w < m) (sym shows.places) h)));
     }

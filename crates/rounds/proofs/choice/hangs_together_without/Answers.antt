@@ -14,8 +14,8 @@ returns-then-rest-eq0 c _ x y nx ny a b =
     (sym (flip_other c.args.island c.args.r x nx) ∙ ap (λ (z : ℕ). bit (bit_xor c.args.island z) x) (sym (c.single.ensures.place c.requires.has.1))
     ∙ ap (λ (z : ℕ). bit z x) c.if-rest-eq0.true ∙ bit_none x) a
 
-pub island-of-requires : goal.island-of-requires
-island-of-requires c =
+pub island_of-requires : goal.island_of-requires
+island_of-requires c =
     let n = length c.args.adj.now in
     let low : bit_xor c.args.island c.single.result < 2 ^ n =
     subst (λ (z : ℕ). bit_xor c.args.island z < 2 ^ n) (sym (c.single.ensures.place c.requires.has.1))
@@ -32,9 +32,9 @@ returns c e x y nx ny a b =
     let adj = c.args.adj.now in
     let s = c.lowest.result in
     let one = c.single.ensures.place c.requires.has.1 in
-    let same : c.island-of.result ≡ bit_xor isl c.single.result = eqb-true c.island-of.result (bit_xor isl c.single.result) (sym c.found-all.ensures ∙ e) in
+    let same : c.island_of.result ≡ bit_xor isl c.single.result = eqb-true c.island_of.result (bit_xor isl c.single.result) (sym c.found_all.ensures ∙ e) in
     let at : (q : ℕ) → (q ≡ r → ⊥) → bit isl q ≡ 1 → Reach adj (bit_xor isl c.single.result) s q =
-    λ q n o. c.island-of.ensures.only-reached q
+    λ q n o. c.island_of.ensures.only-reached q
     (ap (λ (z : ℕ). bit z q) same ∙ ap (λ (z : ℕ). bit (bit_xor isl z) q) one ∙ flip_other isl r q n ∙ o) in
     subst (λ (z : ℕ). Reach adj (bit_xor isl z) x y) one
     (reach_trans (reach_back c.requires.graph (c.lowest.ensures.inside c.if-rest-eq0.false) (at x nx a)) (at y ny b))

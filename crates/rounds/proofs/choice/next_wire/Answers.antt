@@ -2,8 +2,8 @@ use Rattle.std.proofs.Common.{◌^◌, ◌<◌, ◌≤◌, get_or, arith}
 use lib.Count.{ones, ones-le}
 use Rattle.rounds.proofs.choice.next_wire.Goals as goal
 
-pub overflow-add-size : goal.overflow-add-size
-overflow-add-size c =
+pub overflow_add-size : goal.overflow_add-size
+overflow_add-size c =
     let x = get_or c.args.wanted.now c.loop-v.v 0 in
     let y = get_or c.args.duals.now c.loop-v.v 0 in
     let hx : x < 2 ^ 64 = omega (arith, c.type-inv.wanted c.loop-v.v) in

@@ -38,16 +38,16 @@ pub bring-end-requires : goal.bring-end-requires
 bring-end-requires c =
     let r = c.args.r in
     let y = get_or c.carry.new.reversed c.args.w 0 in
-    let i = c.island-of-island.result in
+    let i = c.island_of-island.result in
     let h : bit y r ≡ 1 =
     dual_has (length c.args.adj.now) (gates_in c.bring-mid.new.out c.args.at c.bring-mid.result)
     c.args.wanted.now c.args.duals.now c.carry.new.reversed c.args.w r
-    c.bring-mid.ensures.two_places c.carry.ensures.moved-turned c.bring-mid.ensures.brought c.requires.paired in
+    c.bring-mid.ensures.two_places c.carry.ensures.moved_turned c.bring-mid.ensures.brought c.requires.paired in
     record {
       small = c.requires.small;
       inside = (c.requires.inside.0, c.requires.inside.1);
-      some = bit_some (bit_and y i) r (and_in y i r h (c.island-of-island.ensures.all-reached r here));
-      on_island = λ q o. c.island-of-island.ensures.only-reached q (and_parts y i q o).1;
+      some = bit_some (bit_and y i) r (and_in y i r h (c.island_of-island.ensures.all-reached r here));
+      on_island = λ q o. c.island_of-island.ensures.only-reached q (and_parts y i q o).1;
       alive = c.requires.alive;
       room = omega (arith, c.bring-mid.ensures.wrote.few);
     }
@@ -88,7 +88,7 @@ returns c =
     let few2 : end ≤ mid + 2 * (ones live - 1) = b2.wrote.few in
     let gs = gates_in out1 at mid in
     let hs = gates_in out2 mid end in
-    let isl = c.island-of-island.result in
+    let isl = c.island_of-island.result in
     let A = c.args.wanted.now in
     let B = c.args.duals.now in
     let A1 = c.carry.new.straight in
@@ -103,7 +103,7 @@ returns c =
     λ P f a b. each_more P out1 out3 at mid end f1 f2 ml front a
     (subst (Each P) (sym c.turn.ensures.turned) (each_turned P P f hs b)) in
     let has : bit (get_or B1 w 0) r ≡ 1 =
-    dual_has n gs A B B1 w r b1.two_places c.carry.ensures.moved-turned b1.brought c.requires.paired in
+    dual_has n gs A B B1 w r b1.two_places c.carry.ensures.moved_turned b1.brought c.requires.paired in
     let y = get_or B1 w 0 in
     record {
       both = record {
@@ -117,20 +117,20 @@ returns c =
         two_places = each (TwoPlaces n) (λ g f. record { apart = λ e. f.apart (sym e); from = f.to; to = f.from }) b1.two_places b2.two_places;
         on_island = each (OnIsland adj live r) (λ g f. (f.1, f.0)) b1.on_island b2.on_island;
         moved = subst (λ (ks : List Gate). Moved ks A A2) (sym all)
-            (moved_append gs (turned hs) A A1 A2 c.carry.ensures.moved c.carry-2.ensures.moved-turned);
+            (moved_append gs (turned hs) A A1 A2 c.carry.ensures.moved c.carry-2.ensures.moved_turned);
         duals_moved = subst (λ (ks : List Gate). Moved ks B B2)
             (sym (ap turned all ∙ turned_append gs (turned hs) ∙ ap (λ (ks : List Gate). turned gs ++ ks) (turned_twice hs)))
-            (moved_append (turned gs) hs B B1 B2 c.carry.ensures.moved-turned c.carry-2.ensures.moved);
-        brought = c.carry-2.ensures.moved-turned w ∙ ap (acts (turned hs)) (c.carry.ensures.moved w ∙ b1.brought)
-            ∙ turned_still hs r (b2.spares-root (sym (and_same y isl r (c.island-of-island.ensures.all-reached r here)) ∙ has));
+            (moved_append (turned gs) hs B B1 B2 c.carry.ensures.moved_turned c.carry-2.ensures.moved);
+        brought = c.carry-2.ensures.moved_turned w ∙ ap (acts (turned hs)) (c.carry.ensures.moved w ∙ b1.brought)
+            ∙ turned_still hs r (b2.spares-root (sym (and_same y isl r (c.island_of-island.ensures.all-reached r here)) ∙ has));
         dual_alone = λ q p. ap (λ (x : ℕ). bit x q) (c.carry-2.ensures.moved w)
             ∙ acts_agree (Reach adj live r) hs y (bit_and y isl)
             (each_map (OnIsland adj live r) (λ g. Reach adj live r g.1) (λ g f. f.1) hs b2.on_island)
-            (λ s t. and_same y isl s (c.island-of-island.ensures.all-reached s t)) q p
+            (λ s t. and_same y isl s (c.island_of-island.ensures.all-reached s t)) q p
             ∙ ap (λ (x : ℕ). bit x q) b2.brought;
       };
       told = λ q. elim (bit_cases isl q) [
-        | inl z ↦ inr (λ p. zero_one (bit isl q) z (c.island-of-island.ensures.all-reached q p))
-        | inr o ↦ inl (c.island-of-island.ensures.only-reached q o)
+        | inl z ↦ inr (λ p. zero_one (bit isl q) z (c.island_of-island.ensures.all-reached q p))
+        | inr o ↦ inl (c.island_of-island.ensures.only-reached q o)
       ];
     }

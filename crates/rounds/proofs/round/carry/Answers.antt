@@ -16,8 +16,8 @@ loop-k-init c =
       (λ v. ap (λ (gs : List Gate). acts (turned gs) (get_or c.args.reversed.now v 0)) (sym e)),
     )
 
-pub act-on-each-requires : goal.act-on-each-requires
-act-on-each-requires c =
+pub act_on_each-requires : goal.act_on_each-requires
+act_on_each-requires c =
     (each_at (TwoPlaces 64) c.args.out.now c.args.from c.loop-k.k c.args.to (omega arith) (omega arith) (omega arith) c.requires.places).from
 
 pub loop-k-preserved : goal.loop-k-preserved
@@ -28,10 +28,10 @@ loop-k-preserved c =
     let g : Gate = gate_of (get_or o k 0) in
     let h : Gate = (g.1, g.0) in
     let e = gates_in_next o i k (omega arith) (omega arith) in (
-      subst (λ (gs : List Gate). Moved gs c.args.straight.now c.act-on-each.new.sets) (sym e)
-          (moved_append (gates_in o i k) (g ∷ []) c.args.straight.now c.loop-k.straight c.act-on-each.new.sets
-          c.loop-k.invariant.0 (moved_one g c.loop-k.straight c.act-on-each.new.sets c.act-on-each.ensures)),
-      subst (λ (gs : List Gate). Moved gs c.args.reversed.now c.act-on-each-in-loop-k.new.sets) (sym (ap turned e ∙ turned_append (gates_in o i k) (g ∷ [])))
-          (moved_append (turned (gates_in o i k)) (h ∷ []) c.args.reversed.now c.loop-k.reversed c.act-on-each-in-loop-k.new.sets
-          c.loop-k.invariant.1 (moved_one h c.loop-k.reversed c.act-on-each-in-loop-k.new.sets c.act-on-each-in-loop-k.ensures)),
+      subst (λ (gs : List Gate). Moved gs c.args.straight.now c.act_on_each.new.sets) (sym e)
+          (moved_append (gates_in o i k) (g ∷ []) c.args.straight.now c.loop-k.straight c.act_on_each.new.sets
+          c.loop-k.invariant.0 (moved_one g c.loop-k.straight c.act_on_each.new.sets c.act_on_each.ensures)),
+      subst (λ (gs : List Gate). Moved gs c.args.reversed.now c.act_on_each-in-loop-k.new.sets) (sym (ap turned e ∙ turned_append (gates_in o i k) (g ∷ [])))
+          (moved_append (turned (gates_in o i k)) (h ∷ []) c.args.reversed.now c.loop-k.reversed c.act_on_each-in-loop-k.new.sets
+          c.loop-k.invariant.1 (moved_one h c.loop-k.reversed c.act_on_each-in-loop-k.new.sets c.act_on_each-in-loop-k.ensures)),
     )

@@ -24,7 +24,7 @@ loop-k-preserved c =
     let s = c.loop-k.out in
     let i = c.args.from in
     let k = c.loop-k.k in
-    let y = c.turned-entry.result in
+    let y = c.turned_entry.result in
     let inv = c.loop-k.invariant in
     let f = still o s i k c.args.to (omega arith) (omega arith) (omega arith) c.requires.places inv.1 in
     let g : Gate = gate_of (get_or s k 0) in
@@ -35,6 +35,6 @@ loop-k-preserved c =
       take-set-le i s k y (omega arith) ∙ inv.0,
       drop-set-lt (k + 1) s k y (omega arith) ∙ back,
       gates_in_append s (set s k y) i k (k + 1) (omega arith) (omega arith) (omega arith) (take-set s k y)
-          ∙ ap₂ ◌++◌ inv.2 (gates_in_set s k y (g.1, g.0) lt f.from (c.turned-entry.ensures f.from))
+          ∙ ap₂ ◌++◌ inv.2 (gates_in_set s k y (g.1, g.0) lt f.from (c.turned_entry.ensures f.from))
           ∙ sym (ap turned was ∙ turned_append (gates_in o i k) (g ∷ [])),
     )

@@ -8,9 +8,9 @@ loop-q-preserved g c =
     let ws = (g.M.Machine.meaning c.args.machine.now).words in
     let each = (g.met.M.Machine.fitting c.args.machine.now).one_word_each in
     let h : c.loop-q.q < length ws = omega arith in
-    c.in-ok-add-word.ensures
-    ∙ ap (λ (l : List ℕ). l ++ (codes " " ++ decimal c.word-at.result)) c.loop-q.invariant
-    ∙ words_more ws c.loop-q.q c.word-at.result h c.word-at.ensures
+    c.in_ok-add_word.ensures
+    ∙ ap (λ (l : List ℕ). l ++ (codes " " ++ decimal c.word_at.result)) c.loop-q.invariant
+    ∙ words_more ws c.loop-q.q c.word_at.result h c.word_at.ensures
 
 pub returns : goal.returns
 returns g c =

@@ -10,5 +10,5 @@ returns g c =
     let inside = lt-ltb c.args.k (length l.couplers) h in
     record {
       answer = rw inside refl;
-      leaves = rw inside (marked_is l c.args.self.now c.mark-as.new.self c.args.k c.args.on h c.mark-as.ensures);
+      leaves = rw inside (marked_is l c.args.self.now c.mark_as.new.self c.args.k c.args.on h c.mark_as.ensures);
     }

@@ -10,14 +10,14 @@ use Rattle.planner.proofs.store.Adjacency.island.Goals as goal
 pub returns-then-p-self : goal.returns-then-p-self
 returns-then-p-self c q = ((λ o. zero_one (bit 0 q) (bit_none q) o), (λ t. absurd (let h = t.0 in omega arith)))
 
-pub island-of-requires : goal.island-of-requires
-island-of-requires c =
+pub island_of-requires : goal.island_of-requires
+island_of-requires c =
     let a = c.args.self.now in
     let l = neighbours_length a in
     let f : a.n ≤ 64 = a.few in
     record {
       small = omega arith;
-      inside = (omega arith, subst (λ (x : ℕ). x < 2 ^ length (neighbours_of a)) (sym (c.all-below.ensures.places f)) (subst (λ (m : ℕ). 2 ^ a.n - 1 < 2 ^ m) (sym l) (all_below_low a.n)));
+      inside = (omega arith, subst (λ (x : ℕ). x < 2 ^ length (neighbours_of a)) (sym (c.all_below.ensures.places f)) (subst (λ (m : ℕ). 2 ^ a.n - 1 < 2 ^ m) (sym l) (all_below_low a.n)));
     }
 
 pub returns : goal.returns
@@ -25,7 +25,7 @@ returns c q =
     let a = c.args.self.now in
     let l = neighbours_length a in
     let h : c.args.p < a.n = omega arith in (
-      (λ o. (h, reach_way (c.island-of.ensures.only-reached q o))),
-      (λ t. c.island-of.ensures.all-reached q (way_reach (neighbours_graph a)
-          (λ r b. ap (λ (x : ℕ). bit x r) (c.all-below.ensures.places a.few) ∙ all_below_has a.n r (omega arith)) t.1)),
+      (λ o. (h, reach_way (c.island_of.ensures.only-reached q o))),
+      (λ t. c.island_of.ensures.all-reached q (way_reach (neighbours_graph a)
+          (λ r b. ap (λ (x : ℕ). bit x r) (c.all_below.ensures.places a.few) ∙ all_below_has a.n r (omega arith)) t.1)),
     )

@@ -34,8 +34,8 @@ loop-k-preserved g c =
           (rows_skipped l service c.loop-k.rows k (w.in-None.ensures h) c.loop-k.invariant)
     ]
 
-pub invariant-of-result : goal.invariant-of-result
-invariant-of-result g c =
+pub invariant_of-result : goal.invariant_of-result
+invariant_of-result g c =
     let l = g.M.Chip.layout c.args.machine.now in
     let service = (g.M.Machine.meaning c.args.machine.now).service in
     let so = g.met.M.Chip.sound c.args.machine.now in

@@ -6,13 +6,13 @@ use Rattle.planner.specs.Views.{words_of}
 use Rattle.planner.proofs.Duality.{Dual, fresh_dual, some_same}
 use Rattle.planner.proofs.store.Block.new.Goals as goal
 
-pub invariant-of-result : goal.invariant-of-result
-invariant-of-result c =
+pub invariant_of-result : goal.invariant_of-result
+invariant_of-result c =
     let n : c.args.n ≤ 64 = omega arith in
-    let d : Dual c.args.n c.fresh_words.result c.fresh-words-2.result =
-    subst (λ (ws : List ℕ). Dual c.args.n ws c.fresh-words-2.result) (sym c.fresh_words.ensures)
-    (subst (Dual c.args.n (fresh 64)) (sym c.fresh-words-2.ensures) (fresh_dual c.args.n n)) in
-    (ap length c.fresh_words.ensures ∙ length_fresh 64, (ap length c.fresh-words-2.ensures ∙ length_fresh 64, (omega arith, (n, (d.words_below, (d.duals_below, (d.own, (d.other, tt))))))))
+    let d : Dual c.args.n c.fresh_words.result c.fresh_words-2.result =
+    subst (λ (ws : List ℕ). Dual c.args.n ws c.fresh_words-2.result) (sym c.fresh_words.ensures)
+    (subst (Dual c.args.n (fresh 64)) (sym c.fresh_words-2.ensures) (fresh_dual c.args.n n)) in
+    (ap length c.fresh_words.ensures ∙ length_fresh 64, (ap length c.fresh_words-2.ensures ∙ length_fresh 64, (omega arith, (n, (d.words_below, (d.duals_below, (d.own, (d.other, tt))))))))
 
 pub returns : goal.returns
 returns c = record {

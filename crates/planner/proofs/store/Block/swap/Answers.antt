@@ -7,10 +7,10 @@ use Rattle.planner.specs.Views.{words_of}
 use Rattle.planner.proofs.Duality.{Dual, traded_dual, length_traded, two_wires, traded_words}
 use Rattle.planner.proofs.store.Block.swap.Goals as goal
 
-pub invariant-of-self : goal.invariant-of-self
-invariant-of-self c =
+pub invariant_of-self : goal.invariant_of-self
+invariant_of-self c =
     let s = c.args.self.now in
-    let free : wire_fault s.n c.args.a c.args.b ≡ None = answered_ok (wire_fault s.n c.args.a c.args.b) tt tt c.check-wires.result c.check-wires.ensures c.in-ok-check-wires.was in
+    let free : wire_fault s.n c.args.a c.args.b ≡ None = answered_ok (wire_fault s.n c.args.a c.args.b) tt tt c.check_wires.result c.check_wires.ensures c.in_ok-check_wires.was in
     let two = two_wires s.n c.args.a c.args.b free in
     let d = traded_dual s.n s.words s.duals c.args.a c.args.b
     (record { words_below = s.words_below; duals_below = s.duals_below; own = s.own; other = s.other })
@@ -22,7 +22,7 @@ invariant-of-self c =
 pub returns : goal.returns
 returns c =
     let s = c.args.self.now in
-    let free : wire_fault s.n c.args.a c.args.b ≡ None = answered_ok (wire_fault s.n c.args.a c.args.b) tt tt c.check-wires.result c.check-wires.ensures c.in-ok-check-wires.was in
+    let free : wire_fault s.n c.args.a c.args.b ≡ None = answered_ok (wire_fault s.n c.args.a c.args.b) tt tt c.check_wires.result c.check_wires.ensures c.in_ok-check_wires.was in
     let two = two_wires s.n c.args.a c.args.b free in
     record {
       answer = sym (ap (λ (o : Option WireFault). answered o tt) free);

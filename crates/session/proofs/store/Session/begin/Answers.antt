@@ -1,5 +1,5 @@
 use Rattle.std.proofs.Common.{sym, refl, ◌∙◌}
 use Rattle.session.proofs.store.Session.begin.Goals as goal
 
-pub invariant-of-result : goal.invariant-of-result
-invariant-of-result g c = ((c.in-Some-new.ensures.some _ refl).0 ∙ sym (c.in-Some.ensures.some _ refl).0, tt)
+pub invariant_of-result : goal.invariant_of-result
+invariant_of-result g c = ((c.in-Some-new.ensures.some _ refl).0 ∙ sym (c.in-Some.ensures.some _ refl).0, tt)

@@ -1,5 +1,5 @@
 use Rattle.std.proofs.Common.{sym, refl, ◌∙◌}
 use Rattle.session.proofs.store.Session.begin_block.Goals as goal
 
-pub invariant-of-self : goal.invariant-of-self
-invariant-of-self c = (c.requires ∙ sym ((c.in-Some.ensures.some _ refl).0 ∙ c.wires.ensures), tt)
+pub invariant_of-self : goal.invariant_of-self
+invariant_of-self c = (c.requires ∙ sym ((c.in-Some.ensures.some _ refl).0 ∙ c.wires.ensures), tt)

@@ -15,7 +15,7 @@ returns g c =
     let l = g.C.Chip.layout s.chip in
     let so = g.met.C.Chip.sound s.chip in
     let was = tape_meaning l (vec_items s.tape) s.length s.service in
-    let free : cnot_fault l was c.args.c c.args.t ≡ None = answered_ok (cnot_fault l was c.args.c c.args.t) tt tt c.check-cnot.result c.check-cnot.ensures c.in-ok-check-cnot.was in
+    let free : cnot_fault l was c.args.c c.args.t ≡ None = answered_ok (cnot_fault l was c.args.c c.args.t) tt tt c.check_cnot.result c.check_cnot.ensures c.in_ok-check_cnot.was in
     let ends = (obeyed l was c.args.c c.args.t so free).ends in
     let low : c.args.t < 64 = let a = ends.to in let b = so.at_most_64 in omega arith in
     let a = c.keep.ensures in
