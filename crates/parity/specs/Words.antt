@@ -1,5 +1,5 @@
 -- Words, gates, and what gates do to the words at the places.
-use Rattle.std.specs.Prelude.{◌≡◌, ℕ, ◌+◌, ◌*◌, ◌/◌, ◌%◌, ◌^◌, ◌<◌, List, [], ◌∷◌, map, set, bit_xor, slice_index, slice_set}
+use Rattle.std.specs.Prelude.{◌≡◌, ℕ, ◌+◌, ◌*◌, ◌/◌, ◌%◌, ◌^◌, ◌<◌, List, [], ◌∷◌, map, bit_xor, slice_index, slice_set}
 use Rattle.std.specs.List.{range_with_len}
 
 -- A word is a set of inputs: bit i stands for input i.

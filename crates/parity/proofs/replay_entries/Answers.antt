@@ -1,4 +1,4 @@
-use Rattle.std.proofs.Common.{◌≡◌, ℕ, ◌+◌, List, map, get_or, drop, sym, ap, ◌∙◌}
+use Rattle.std.proofs.Common.{◌+◌, map, drop, sym, ap, ◌∙◌}
 use Rattle.parity.specs.Words.{gate_of, replay}
 use Rattle.parity.proofs.Words.{replay_step, replay_done}
 use Rattle.parity.proofs.replay_entries.Goals as goal

@@ -1,4 +1,4 @@
-use Rattle.std.proofs.Common.{◌≡◌, true, false, sym, ◌∙◌, arith}
+use Rattle.std.proofs.Common.{true, false, sym, ◌∙◌, arith}
 use Rattle.chip.proofs.Joining.{joins_turn, joining_from_done}
 use Rattle.chip.proofs.Chip.joins.Goals as goal
 
