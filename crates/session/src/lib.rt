@@ -1,5 +1,6 @@
 // Sessions: blocks of CNOTs turned into gates on couplers in service, and couplers taken out on passes.
 #![tactic(auto)]
+
 pub mod calls;
 pub mod flush;
 pub mod open;

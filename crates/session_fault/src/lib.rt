@@ -1,5 +1,6 @@
 // Why a session turns a call down. What a lower layer turned down is carried inside, unchanged.
 #![tactic(auto)]
+
 ghost use Rattle.std.specs.Prelude.{◌≡◌, Some};
 ghost use Rattle.session_fault.specs.declared.SessionFault.TheVariants.{Machine as OfMachine, NoMemory as OutOfMemory};
 ghost use Rattle.session_fault.specs.Faults.{session_refusal, session_event, session_text, of_wires, of_plan};
