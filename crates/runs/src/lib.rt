@@ -1,5 +1,6 @@
 // Lists of calls on a session and a machine, and what holds after each: told by a sheet that is fed the calls alone.
 #![tactic(auto)]
+
 ghost use Rattle.runs.specs.Law.{Law};
 ghost use Rattle.runs.specs.Carrying.{FlushCarries};
 
