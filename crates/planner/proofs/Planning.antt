@@ -1,10 +1,9 @@
 -- Plans for wanted sets are plans for the block.
-use Rattle.std.proofs.Common.{◌≡◌, ℕ, ◌-◌, ◌^◌, ◌<◌, ◌≤◌, List, map, length, get_or, take, sym, ap, ◌∙◌, subst, ap₂, arith, get_or-take}
+use Rattle.std.proofs.Common.{◌≡◌, ℕ, ◌^◌, ◌<◌, ◌≤◌, List, map, length, get_or, take, sym, ap, ◌∙◌, subst, ap₂, arith, get_or-take}
 use lib.Count.{ones}
 use lib.Pow.{pow-lt}
 use Rattle.std.proofs.lemmas.List.{length-take}
 use Rattle.parity.specs.Words.{Gate, fresh, replay}
-use Rattle.parity.specs.Sets.{bit}
 use Rattle.parity.specs.Gates.{acts, TwoPlaces, Each}
 use Rattle.parity.specs.Pairing.{dot}
 use Rattle.parity.specs.Entries.{gates_in, Wrote}

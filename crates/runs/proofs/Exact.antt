@@ -1,5 +1,5 @@
 -- The law, from what the sheet tells.
-use Rattle.std.proofs.Common.{◌≡◌, ℕ, ◌-◌, ◌^◌, ◌<◌, ◌≤◌, Bool, true, false, eqb, List, map, length, get_or, take, set, Some, None, Ok, Err, Option, Result, sym, refl, ap, ◌∙◌, subst, arith, length-take-le}
+use Rattle.std.proofs.Common.{◌≡◌, ℕ, ◌-◌, ◌^◌, ◌<◌, ◌≤◌, Bool, true, false, eqb, List, length, get_or, take, set, Some, None, Ok, Err, Option, Result, sym, refl, ap, ◌∙◌, subst, arith, length-take-le}
 use lib.ListN.{get_or-map, length-map}
 use Rattle.std.proofs.lemmas.Bool.{eq-eqb, and_from}
 use Rattle.chip.specs.Answers.{kept}
@@ -16,11 +16,11 @@ use Rattle.session_fault.specs.declared.SessionFault.TheVariants.{Unreachable}
 use Rattle.session.specs.declared.records.CouplerRecord.TheVariants.{In, Out, WrittenOff}
 use Rattle.session.specs.State.{State, sized}
 use Rattle.session.specs.Outages.{recorded, take_fault, end_fault}
-use Rattle.session.specs.Flushes.{HasPlan, PlanLess, flushed, Flush, other_size, short, unreachable, too_many, plays}
+use Rattle.session.specs.Flushes.{HasPlan, PlanLess, Flush, other_size, short, unreachable, too_many, plays}
 use Rattle.session.proofs.Flushing.{first_gates}
 use Rattle.runs.specs.Runs.{Event, Step, adds, swaps, takes_out, gives_back, writes_off, flushes, Run, ended, then}
 use Rattle.runs.specs.Sheet.{never, written_off, Sheet, blank, fed, serving}
-use Rattle.runs.specs.Law.{sheet_of, Carried, Puts, UnreachableExactly, Service, Law}
+use Rattle.runs.specs.Law.{Carried, Puts, UnreachableExactly, Service, Law}
 use Rattle.runs.specs.Carrying.{Carries, FlushCarries}
 use Rattle.runs.proofs.Lists.{get_d_map_in, get_d_default}
 use Rattle.runs.proofs.Tied.{ReachesIn, Tied, words_long, wanted_is, brought, delivered, run_tied, new_tied}

@@ -1,5 +1,5 @@
 -- What a session and its machine hold after every list of calls, told by the sheet.
-use Rattle.std.proofs.Common.{◌≡◌, ℕ, ◌<◌, Bool, true, false, cond, eqb, ltb, List, [], ◌∷◌, ◌++◌, map, length, get_or, set, replicate, is_ok, Some, None, Ok, Err, Option, Result, sym, refl, ap, ◌∙◌, subst, subst₂, arith, length-set}
+use Rattle.std.proofs.Common.{◌≡◌, ℕ, ◌<◌, Bool, true, false, cond, eqb, ltb, List, [], ◌++◌, map, length, get_or, set, replicate, is_ok, Some, None, Option, Result, sym, refl, ap, ◌∙◌, subst, subst₂, length-set}
 use lib.ListN.{length-map, length-replicate, get_or-map}
 use lib.Seq.{map-set, map-set_same}
 use Rattle.chip.specs.Answers.{answered, kept}
@@ -13,7 +13,7 @@ use Rattle.parity.specs.Sets.{xor_over}
 use Rattle.parity.specs.Gates.{Each, TwoPlaces}
 use Rattle.parity.specs.Entries.{gates_in}
 use Rattle.parity.specs.Placements.{Placement, wires_to_places}
-use Rattle.parity.proofs.Words.{length_fresh, get_d_fresh, length_replay, replay_append}
+use Rattle.parity.proofs.Words.{length_fresh, length_replay, replay_append}
 use Rattle.parity.proofs.Xors.{xor_over_none, get_d_map_zero, map_fresh, map_cnot}
 use Rattle.parity.proofs.Each.{each_append, each_map}
 use Rattle.parity.proofs.Gates.{replay_from_fresh}

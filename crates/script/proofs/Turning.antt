@@ -1,5 +1,5 @@
 -- From what a call did to a turn, and from turns to a run.
-use Rattle.std.proofs.Common.{◌≡◌, ℕ, true, false, List, [], ◌∷◌, ◌++◌, length, is_ok, Result, sym, refl, ap, ◌∙◌, subst, subst₂, append_assoc, append-nil}
+use Rattle.std.proofs.Common.{◌≡◌, ℕ, true, false, List, [], ◌∷◌, ◌++◌, Result, sym, refl, ap, ◌∙◌, subst, subst₂, append_assoc, append-nil}
 use Rattle.chip.specs.Answers.{answered}
 use Rattle.chip.specs.Layout.{Layout}
 use Rattle.machine.specs.Meaning.{Meaning}

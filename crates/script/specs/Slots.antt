@@ -1,5 +1,5 @@
 -- Slots for passes: an obeyed take-out fills one, an obeyed give-back or write-off empties one.
-use Rattle.std.specs.Prelude.{◌≡◌, ℕ, Bool, true, false, cond, not, List, length, get_or, is_some, Some, None, Ok, Err, Option, Result, nat_lt, slice_index_or, slice_set}
+use Rattle.std.specs.Prelude.{◌≡◌, ℕ, Bool, false, cond, not, List, length, get_or, is_some, Some, None, Ok, Err, Option, Result, nat_lt, slice_index_or, slice_set}
 use Rattle.session_fault.specs.declared.SessionFault.{SessionFault}
 use Rattle.session.specs.declared.pass.Pass.{Pass}
 use Rattle.session.specs.State.{State}

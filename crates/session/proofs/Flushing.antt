@@ -1,16 +1,12 @@
 -- From what a flush did to its relation.
-use Rattle.std.proofs.Common.{◌≡◌, ℕ, ◌+◌, ◌-◌, ◌*◌, ◌/◌, ◌%◌, ◌<◌, ◌≤◌, Bool, true, false, cond, eqb, leb, ◌⊎◌, ◌↔◌, List, [], ◌∷◌, map, length, take, drop, Some, None, Ok, Err, Option, Result, sym, refl, ap, ◌∙◌, subst, ap₂, subst₂, inl, inr, arith, length-take-le}
-use lib.ListN.{length-map}
-use Rattle.std.proofs.lemmas.Bool.{leb-true, leb-false, le-leb, eqb-true, and_parts, cases_lt, cases_Bool}
+use Rattle.std.proofs.Common.{◌≡◌, ℕ, ◌<◌, ◌≤◌, Bool, true, false, cond, eqb, leb, ◌⊎◌, ◌↔◌, List, [], ◌∷◌, map, length, take, Some, None, Ok, Err, Option, Result, sym, refl, ap, ◌∙◌, subst, subst₂, inl, inr, arith, length-take-le}
+use Rattle.std.proofs.lemmas.Bool.{leb-true, leb-false, eqb-true, and_parts, cases_lt, cases_Bool}
 use Rattle.std.specs.Option.{option_map}
 use Rattle.chip.specs.Answers.{answered, kept}
-use Rattle.chip.specs.Layout.{Layout, Sound}
-use Rattle.machine.specs.declared.fault.MachineFault.{MachineFault}
+use Rattle.chip.specs.Layout.{Layout}
 use Rattle.machine.specs.declared.fault.MachineFault.TheVariants.{AllowanceExceeded}
-use Rattle.machine.specs.Meaning.{Meaning}
-use Rattle.machine.specs.Calls.{fits_fault}
 use Rattle.machine.specs.OnCoupler.{OnCoupler, OnCouplers}
-use Rattle.parity.specs.Words.{Gate, entry, gate_of, replay}
+use Rattle.parity.specs.Words.{Gate, gate_of}
 use Rattle.parity.specs.Gates.{Each}
 use Rattle.parity.specs.Entries.{gates_in}
 use Rattle.planner.specs.declared.fault.PlanFault.{PlanFault}
@@ -21,10 +17,10 @@ use Rattle.session_fault.specs.declared.SessionFault.TheVariants.{SizeMismatch, 
 use Rattle.session_fault.specs.Faults.{of_plan}
 use Rattle.planner.specs.declared.plan.Planned.{Planned}
 use Rattle.planner.specs.Views.{places_of}
-use Rattle.session.specs.State.{View, State, sized}
+use Rattle.session.specs.State.{State, sized}
 use Rattle.session.specs.Outages.{size_fault}
 use Rattle.session.specs.Planning.{PlannedFor}
-use Rattle.session.specs.Flushes.{HasPlan, PlanLess, flushed, CarriesOut, Flush, other_size, short, unreachable, too_many, plays}
+use Rattle.session.specs.Flushes.{HasPlan, flushed, CarriesOut, Flush, other_size, short, unreachable, too_many, plays}
 
 -- ---- sizes
 

@@ -11,7 +11,7 @@ use Rattle.play.specs.Playing.{replayed}
 use Rattle.planner.specs.Plans.{room, PlanIn, NoPlan}
 use Rattle.session_fault.specs.declared.SessionFault.{SessionFault}
 use Rattle.session_fault.specs.declared.SessionFault.TheVariants.{SizeMismatch, PlanBufferTooShort, Unreachable, Machine}
-use Rattle.session.specs.State.{View, State, beside, sized}
+use Rattle.session.specs.State.{State, beside, sized}
 use Rattle.session.specs.Begins.{begun}
 
 -- the first entries of the buffer are a plan for the block, on couplers in service

@@ -7,7 +7,7 @@ use Rattle.session_fault.specs.declared.SessionFault.TheVariants.{SizeMismatch, 
 use Rattle.session.specs.declared.pass.Pass.{Pass}
 use Rattle.session.specs.declared.records.CouplerRecord.{CouplerRecord}
 use Rattle.session.specs.declared.records.CouplerRecord.TheVariants.{In, Out, WrittenOff}
-use Rattle.session.specs.State.{View, State, beside, sized, with_records, with_service}
+use Rattle.session.specs.State.{State, beside, sized, with_records, with_service}
 
 abbrev pub is_in : CouplerRecord → Bool
 is_in In = true

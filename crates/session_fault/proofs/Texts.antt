@@ -1,5 +1,5 @@
 -- A refusal that carries nothing is told by its number and what happened.
-use Rattle.std.proofs.Common.{◌≡◌, ℕ, List, ◌++◌, codes, decimal, sym, refl, ap, ◌∙◌, ap₂}
+use Rattle.std.proofs.Common.{◌≡◌, ℕ, List, ◌++◌, codes, decimal, sym, refl, ◌∙◌, ap₂}
 use Rattle.machine.specs.declared.fault.MachineFault.{MachineFault}
 use Rattle.session_fault.specs.declared.SessionFault.{SessionFault}
 use Rattle.session_fault.specs.declared.SessionFault.TheVariants.{MachineNotNew, SizeMismatch, CouplerNotIn, OtherSession, CouplerNotOut, PlanBufferTooShort, Unreachable, Machine, NoSuchWire, SameWire, NoMemory}

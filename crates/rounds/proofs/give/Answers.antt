@@ -1,4 +1,4 @@
-use Rattle.std.proofs.Common.{◌≡◌, ℕ, ◌-◌, ◌^◌, length, get_or, sym, refl, ap, ◌∙◌, inl, inr}
+use Rattle.std.proofs.Common.{◌≡◌, ℕ, ◌^◌, length, get_or, sym, refl, ap, ◌∙◌, inl, inr}
 use Rattle.parity.specs.Sets.{bit}
 use Rattle.parity.proofs.Bits.{zero_one, bit_cases, place_below, place_is}
 use Rattle.parity.proofs.Counts.{single_place}

@@ -1,4 +1,4 @@
-use Rattle.std.proofs.Common.{◌≢◌, get_or, below_more}
+use Rattle.std.proofs.Common.{get_or, below_more}
 use lib.Bits.{bit_and}
 use Rattle.std.proofs.lemmas.Bool.{false≢true}
 use Rattle.parity.proofs.Bits.{bit_some}

@@ -1,4 +1,4 @@
-use Rattle.std.proofs.Common.{◌≡◌, ℕ, ◌<◌, ◌≤◌, List, [], ◌++◌, length, sym, refl, ◌∙◌, subst, arith, take_all}
+use Rattle.std.proofs.Common.{◌<◌, ◌≤◌, List, [], ◌++◌, length, sym, refl, ◌∙◌, subst, arith, take_all}
 use lib.Seq.{map-set_same}
 use Rattle.std.proofs.lemmas.List.{take_more_set}
 use Rattle.runs.proofs.Exact.{the_law}

@@ -1,4 +1,4 @@
-use Rattle.std.proofs.Common.{◌≡◌, ◌≤◌, length, arith}
+use Rattle.std.proofs.Common.{◌≤◌, length, arith}
 use Rattle.planner.specs.Views.{places_of}
 use Rattle.session.specs.Views.{state}
 use Rattle.session.proofs.Flushing.{plan_on_couplers, flush_carried}
