@@ -1,16 +1,17 @@
 // A pass: the duty to end the outage of one coupler, by giving it back or writing it off. It names the number of the session
 // that handed it out. It cannot be copied or made elsewhere, and no program that is proved lets one go.
-ghost use Rattle.std.specs.Prelude.{◌≡◌};
+ghost use Rattle.std.specs.Prelude.{◌≡◌, ◌≤◌};
 
 pub struct Pass {
     pub(crate) session: u32,
     pub(crate) coupler: usize,
 }
 
-// Nothing meets this, so the check refuses a program that lets a pass go.
+// A chip has fewer couplers than this asks for, so no pass that was handed out meets it: the check refuses a program that
+// lets one go.
 impl Drop for Pass {
     fn drop(self)
-        requires { ⊥ }
+        requires names_no_coupler { 256 ≤ self.coupler }
     {
         let Pass {
             session: _,
