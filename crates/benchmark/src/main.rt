@@ -2,6 +2,7 @@
 // Without an argument ten blocks a line, and nothing that differs from run to run; with a number, that many blocks
 // a line, and also how many plans were made a second, and a bar.
 #![tactic(auto)]
+
 use cell::{all_tasks, plan_all, total_count};
 use chip::Chip;
 use drafts::{two_rings, with_diagonals};

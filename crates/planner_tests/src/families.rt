@@ -1,7 +1,7 @@
 // Families of chips: random blocks on each.
 use crate::chips::{line, ring, star};
 use crate::random::Random;
-use crate::trial::{check_blocks, check_two_blocks};
+use crate::trial::{Case, check_blocks, check_two_blocks};
 use chip::Chip;
 use grid::GridChip;
 use machine::Machine;
@@ -12,7 +12,7 @@ use table::store::TableMachine;
 #[test]
 fn lines(rt: HostRuntime) -> Result<(), Fail> {
     for (places, seed) in [(1, 11), (2, 12), (3, 13), (5, 14), (10, 15)] {
-        check_blocks(&rt, &line(rt.alloc(), places)?, seed, 200)?;
+        check_blocks(&rt, "line", &line(rt.alloc(), places)?, seed, 200)?;
     }
     Ok(())
 }
@@ -20,7 +20,7 @@ fn lines(rt: HostRuntime) -> Result<(), Fail> {
 #[test]
 fn rings(rt: HostRuntime) -> Result<(), Fail> {
     for (places, seed) in [(3, 21), (4, 22), (5, 23), (8, 24), (12, 25)] {
-        check_blocks(&rt, &ring(rt.alloc(), places)?, seed, 200)?;
+        check_blocks(&rt, "ring", &ring(rt.alloc(), places)?, seed, 200)?;
     }
     Ok(())
 }
@@ -28,7 +28,7 @@ fn rings(rt: HostRuntime) -> Result<(), Fail> {
 #[test]
 fn stars(rt: HostRuntime) -> Result<(), Fail> {
     for (places, seed) in [(3, 31), (4, 32), (6, 33), (9, 34), (12, 35)] {
-        check_blocks(&rt, &star(rt.alloc(), places)?, seed, 200)?;
+        check_blocks(&rt, "star", &star(rt.alloc(), places)?, seed, 200)?;
     }
     Ok(())
 }
@@ -38,7 +38,7 @@ fn grids(rt: HostRuntime) -> Result<(), Fail> {
     let cases = [(1, 1, 41), (2, 2, 42), (2, 3, 43), (3, 3, 44), (4, 4, 45)];
     for (rows, columns, seed) in cases {
         let machine = TableMachine::new(GridChip::new(rows, columns)?);
-        check_blocks(&rt, &machine, seed, 200)?;
+        check_blocks(&rt, "grid", &machine, seed, 200)?;
     }
     Ok(())
 }
@@ -46,6 +46,7 @@ fn grids(rt: HostRuntime) -> Result<(), Fail> {
 // Takes some couplers out of service, and plans on what is left.
 fn check_without<M: Machine>(
     rt: &impl Abort,
+    name: &str,
     machine: &mut M,
     out: &[usize],
     seed: u64,
@@ -54,19 +55,26 @@ fn check_without<M: Machine>(
     for k in out.iter() {
         machine.set(*k, false)?;
     }
-    check_blocks(rt, machine, seed, blocks)
+    check_blocks(rt, name, machine, seed, blocks)
 }
 
 #[test]
 fn islands_between_couplers_out_of_service(rt: HostRuntime) -> Result<(), Fail> {
     let heap = rt.alloc();
-    check_without(&rt, &mut line(heap, 2)?, &[0], 51, 100).note("two single places")?;
-    check_without(&rt, &mut ring(heap, 8)?, &[3, 7], 52, 250).note("two lines")?;
-    check_without(&rt, &mut ring(heap, 9)?, &[0, 3, 6], 53, 250).note("three lines")?;
-    check_without(&rt, &mut star(heap, 7)?, &[0, 1, 2], 54, 200).note("a star and three places")?;
+    check_without(&rt, "two single places", &mut line(heap, 2)?, &[0], 51, 100)?;
+    check_without(&rt, "two lines", &mut ring(heap, 8)?, &[3, 7], 52, 250)?;
+    check_without(&rt, "three lines", &mut ring(heap, 9)?, &[0, 3, 6], 53, 250)?;
+    check_without(
+        &rt,
+        "a star and three places",
+        &mut star(heap, 7)?,
+        &[0, 1, 2],
+        54,
+        200,
+    )?;
     // the couplers between the second row and the third
     let mut grid = TableMachine::new(GridChip::new(4, 4)?);
-    check_without(&rt, &mut grid, &[16, 17, 18, 19], 55, 200).note("two ladders")
+    check_without(&rt, "two ladders", &mut grid, &[16, 17, 18, 19], 55, 200)
 }
 
 // Puts each coupler in service with the chance of three in four.
@@ -83,7 +91,12 @@ fn random_couplers_out_of_service(rt: HostRuntime) -> Result<(), Fail> {
     let mut random = Random::new(61);
     for number in 0..1000 {
         shuffle_service(&mut machine, &mut random)?;
-        check_two_blocks(&rt, &machine, &mut random).note(number)?;
+        let case = Case {
+            chip: "grid",
+            places: machine.width(),
+            number,
+        };
+        check_two_blocks(&rt, case, &machine, &mut random)?;
     }
     Ok(())
 }
@@ -92,14 +105,21 @@ fn random_couplers_out_of_service(rt: HostRuntime) -> Result<(), Fail> {
 fn the_largest_chips(rt: HostRuntime) -> Result<(), Fail> {
     let heap = rt.alloc();
     for (places, seed) in [(63, 71), (64, 72)] {
-        check_blocks(&rt, &line(heap, places)?, seed, 8).note("line")?;
-        check_blocks(&rt, &ring(heap, places)?, seed, 8).note("ring")?;
-        check_blocks(&rt, &star(heap, places)?, seed, 8).note("star")?;
-        check_without(&rt, &mut ring(heap, places)?, &[20, 62], seed, 8).note("two lines")?;
+        check_blocks(&rt, "line", &line(heap, places)?, seed, 8)?;
+        check_blocks(&rt, "ring", &ring(heap, places)?, seed, 8)?;
+        check_blocks(&rt, "star", &star(heap, places)?, seed, 8)?;
+        check_without(
+            &rt,
+            "two lines",
+            &mut ring(heap, places)?,
+            &[20, 62],
+            seed,
+            8,
+        )?;
     }
     for (rows, columns, seed) in [(7, 9, 73), (8, 8, 74)] {
         let machine = TableMachine::new(GridChip::new(rows, columns)?);
-        check_blocks(&rt, &machine, seed, 8).note("grid")?;
+        check_blocks(&rt, "grid", &machine, seed, 8)?;
     }
     Ok(())
 }

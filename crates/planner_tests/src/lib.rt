@@ -1,5 +1,6 @@
 // The planner on chips of many forms and random blocks, each plan replayed by code of its own.
 #![tactic(auto)]
+
 #[cfg(test)]
 mod chips;
 #[cfg(test)]

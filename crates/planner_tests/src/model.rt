@@ -14,15 +14,20 @@ pub(crate) fn single_words() -> [u64; 64] {
 }
 
 // Adds word a into word b.
-pub(crate) fn add(words: &mut [u64; 64], a: usize, b: usize) -> Result<(), Fail> {
-    assert!(a < 64 && b < 64);
+pub(crate) fn add(rt: &impl Abort, words: &mut [u64; 64], a: usize, b: usize) -> Result<(), Fail> {
+    assert!(rt; a < 64 && b < 64);
     words[b] ^= words[a];
     Ok(())
 }
 
 // Exchanges words a and b.
-pub(crate) fn exchange(words: &mut [u64; 64], a: usize, b: usize) -> Result<(), Fail> {
-    assert!(a < 64 && b < 64);
+pub(crate) fn exchange(
+    rt: &impl Abort,
+    words: &mut [u64; 64],
+    a: usize,
+    b: usize,
+) -> Result<(), Fail> {
+    assert!(rt; a < 64 && b < 64);
     let word = words[a];
     words[a] = words[b];
     words[b] = word;

@@ -1,7 +1,7 @@
 // What the planner turns down, with nothing touched.
 use crate::chips::line;
 use crate::trial::{
-    BUFFER, UNTOUCHED, check_untouched, empty_block, most_gates, own_places, plan_for,
+    BUFFER, Case, UNTOUCHED, check_untouched, empty_block, most_gates, own_places, plan_for,
 };
 use chip::Chip;
 use machine::Machine;
@@ -13,6 +13,11 @@ use std::test::*;
 // A buffer one entry short is refused with the length that is needed; that length is enough.
 fn check_short<M: Machine>(rt: &impl Abort, machine: &M) -> Result<(), Fail> {
     let n = machine.width();
+    let case = Case {
+        chip: "line",
+        places: n,
+        number: 0,
+    };
     let mut block = empty_block(n)?;
     block.cx(n.wrapping_sub(1), 0)?;
     let places = own_places(n)?;
@@ -20,17 +25,24 @@ fn check_short<M: Machine>(rt: &impl Abort, machine: &M) -> Result<(), Fail> {
     let mut out = [UNTOUCHED; BUFFER];
     let short = out.get_mut(0..needed.wrapping_sub(1)).ok_or("no room")?;
     let refused = plan_for(machine, &block, &places, short).err();
-    assert_eq!(rt; refused, Some(PlanFault::BufferTooShort { needed }));
-    check_untouched(rt, &out)?;
+    assert_eq!(rt;
+        refused,
+        Some(PlanFault::BufferTooShort { needed }),
+        "{case}"
+    );
+    check_untouched(rt, case, &out)?;
     let enough = out.get_mut(0..needed).ok_or("no room")?;
-    assert!(rt; plan_for(machine, &block, &places, enough).is_ok());
+    assert!(rt;
+        plan_for(machine, &block, &places, enough).is_ok(),
+        "{case}"
+    );
     Ok(())
 }
 
 #[test]
 fn a_short_buffer_is_told_what_is_needed(rt: HostRuntime) -> Result<(), Fail> {
     for places in [2, 3, 7, 63, 64] {
-        check_short(&rt, &line(rt.alloc(), places)?).note(places)?;
+        check_short(&rt, &line(rt.alloc(), places)?)?;
     }
     Ok(())
 }
@@ -42,19 +54,24 @@ fn check_mismatch<M: Machine>(
     wires: usize,
     placed: usize,
 ) -> Result<(), Fail> {
+    let case = Case {
+        chip: "line",
+        places: machine.width(),
+        number: wires,
+    };
     let block = empty_block(wires)?;
     let places = own_places(placed)?;
     let mut out = [UNTOUCHED; BUFFER];
     let refused = plan_for(machine, &block, &places, &mut out).err();
-    assert_eq!(rt; refused, Some(PlanFault::SizeMismatch));
-    check_untouched(rt, &out)
+    assert_eq!(rt; refused, Some(PlanFault::SizeMismatch), "{case}");
+    check_untouched(rt, case, &out)
 }
 
 #[test]
 fn sizes_that_differ_are_refused(rt: HostRuntime) -> Result<(), Fail> {
     let machine = line(rt.alloc(), 3)?;
     for (wires, placed) in [(2, 3), (3, 2), (4, 4), (64, 3), (3, 64)] {
-        check_mismatch(&rt, &machine, wires, placed).note(wires)?;
+        check_mismatch(&rt, &machine, wires, placed)?;
     }
     assert!(rt; Block::new(0).is_none() && Block::new(65).is_none());
     assert!(rt; Places::new(0).is_none() && Places::new(65).is_none());

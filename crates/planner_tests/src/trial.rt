@@ -7,6 +7,7 @@ use machine::Machine;
 use planner::fault::PlanFault;
 use planner::plan::{Planned, plan};
 use planner::store::{Adjacency, Block, Places};
+use std::fmt;
 use std::process::Abort;
 use std::test::*;
 
@@ -14,6 +15,21 @@ use std::test::*;
 pub(crate) const BUFFER: usize = 8066;
 
 pub(crate) const UNTOUCHED: u16 = u16::MAX;
+
+// What is tried, said where a check fails: the chip, its places, and the number of the block.
+#[derive(Clone, Copy)]
+pub(crate) struct Case<'a> {
+    pub(crate) chip: &'a str,
+    pub(crate) places: usize,
+    pub(crate) number: usize,
+}
+
+impl fmt::Display for Case<'_> {
+    fn fmt<W: fmt::Write>(&self, f: &mut fmt::Formatter<W>) -> fmt::Result {
+        let (chip, places, number) = (self.chip, self.places, self.number);
+        write!(f, "{chip}, {places} places, number {number}")
+    }
+}
 
 // A block, and a plain copy of its words.
 #[derive(Drop)]
@@ -30,14 +46,14 @@ impl Task {
         })
     }
 
-    fn cx(&mut self, a: usize, b: usize) -> Result<(), Fail> {
+    fn cx(&mut self, rt: &impl Abort, a: usize, b: usize) -> Result<(), Fail> {
         self.block.cx(a, b)?;
-        add(&mut self.words, a, b)
+        add(rt, &mut self.words, a, b)
     }
 
-    fn swap(&mut self, a: usize, b: usize) -> Result<(), Fail> {
+    fn swap(&mut self, rt: &impl Abort, a: usize, b: usize) -> Result<(), Fail> {
         self.block.swap(a, b)?;
-        exchange(&mut self.words, a, b)
+        exchange(rt, &mut self.words, a, b)
     }
 }
 
@@ -67,7 +83,11 @@ enum Kind {
 }
 
 // A random block for the machine.
-fn random_task<M: Machine>(machine: &M, random: &mut Random) -> Result<Task, Fail> {
+fn random_task<M: Machine>(
+    rt: &impl Abort,
+    machine: &M,
+    random: &mut Random,
+) -> Result<Task, Fail> {
     let n = machine.width();
     let mut task = Task::new(n)?;
     let kind = match random.below(4) {
@@ -76,13 +96,14 @@ fn random_task<M: Machine>(machine: &M, random: &mut Random) -> Result<Task, Fai
         _ => Kind::Both,
     };
     for _ in 0..random.below(n.wrapping_mul(4)) {
-        call(machine, random, kind, &mut task)?;
+        call(rt, machine, random, kind, &mut task)?;
     }
     Ok(task)
 }
 
 // One random call.
 fn call<M: Machine>(
+    rt: &impl Abort,
     machine: &M,
     random: &mut Random,
     kind: Kind,
@@ -100,7 +121,11 @@ fn call<M: Machine>(
         Kind::Near => false,
         Kind::Both => random.below(4) == 0,
     };
-    if swap { task.swap(a, b) } else { task.cx(a, b) }
+    if swap {
+        task.swap(rt, a, b)
+    } else {
+        task.cx(rt, a, b)
+    }
 }
 
 // The ends of a random coupler, in either order, if it is in service.
@@ -129,15 +154,19 @@ pub(crate) fn plan_for<M: Machine>(
 // Plans random blocks, each followed by one that starts where the first has left the wires.
 pub(crate) fn check_blocks<M: Machine>(
     rt: &impl Abort,
+    chip: &str,
     machine: &M,
     seed: u64,
     blocks: usize,
 ) -> Result<(), Fail> {
     let mut random = Random::new(seed);
     for number in 0..blocks {
-        check_two_blocks(rt, machine, &mut random)
-            .note(number)
-            .note(machine.width())?;
+        let case = Case {
+            chip,
+            places: machine.width(),
+            number,
+        };
+        check_two_blocks(rt, case, machine, &mut random)?;
     }
     Ok(())
 }
@@ -145,12 +174,13 @@ pub(crate) fn check_blocks<M: Machine>(
 // One block, and then, where it could be planned, another.
 pub(crate) fn check_two_blocks<M: Machine>(
     rt: &impl Abort,
+    case: Case<'_>,
     machine: &M,
     random: &mut Random,
 ) -> Result<(), Fail> {
     let start = own_places(machine.width())?;
-    if let Some(places) = check_block(rt, machine, random, &start)? {
-        let _ = check_block(rt, machine, random, &places)?;
+    if let Some(places) = check_block(rt, case, machine, random, &start)? {
+        let _ = check_block(rt, case, machine, random, &places)?;
     }
     Ok(())
 }
@@ -158,28 +188,27 @@ pub(crate) fn check_two_blocks<M: Machine>(
 // Plans a random block from a placement, and checks the plan or the refusal. Returns the new placement.
 fn check_block<M: Machine>(
     rt: &impl Abort,
+    case: Case<'_>,
     machine: &M,
     random: &mut Random,
     places: &Places,
 ) -> Result<Option<Places>, Fail> {
-    let task = random_task(machine, random)?;
+    let task = random_task(rt, machine, random)?;
     let words = task.block.words();
-    assert_eq!(rt;
-        words,
-        task.words.get(0..machine.width()).ok_or("too wide")?
-    );
+    let copied = task.words.get(0..machine.width()).ok_or("too wide")?;
+    assert_eq!(rt; words, copied, "{case}");
     let reachable = is_reachable(rt, machine, words, places.places())?;
     let mut out = [UNTOUCHED; BUFFER];
     match plan_for(machine, &task.block, places, &mut out) {
         Ok(planned) => {
-            assert!(rt; reachable, "two islands");
-            check_plan(rt, machine, words, places, &planned, &out)?;
+            assert!(rt; reachable, "{case}: two islands");
+            check_plan(rt, case, machine, words, places, &planned, &out)?;
             Ok(Some(planned.places))
         }
         Err(fault) => {
-            assert!(rt; !reachable, "one island");
-            assert!(rt; fault == PlanFault::Unreachable);
-            check_untouched(rt, &out)?;
+            assert!(rt; !reachable, "{case}: one island");
+            assert!(rt; fault == PlanFault::Unreachable, "{case}");
+            check_untouched(rt, case, &out)?;
             Ok(None)
         }
     }
@@ -204,6 +233,7 @@ fn is_reachable<M: Machine>(
 // Checks a plan: its length, its gates, its placement, and that nothing else is written.
 fn check_plan<M: Machine>(
     rt: &impl Abort,
+    case: Case<'_>,
     machine: &M,
     words: &[u64],
     old: &Places,
@@ -212,18 +242,19 @@ fn check_plan<M: Machine>(
 ) -> Result<(), Fail> {
     let n = machine.width();
     let count = planned.gates;
-    assert!(rt; count <= most_gates(n), "{}", count);
-    assert_eq!(rt; count == 0, all_single(words));
+    assert!(rt; count <= most_gates(n), "{case}: {count}");
+    assert_eq!(rt; count == 0, all_single(words), "{case}");
     let gates = out.get(0..count).ok_or("too many gates")?;
     check_gates(
         rt,
+        case,
         machine,
         gates,
         words,
         old.places(),
         planned.places.places(),
     )?;
-    check_untouched(rt, out.get(count..).ok_or("too many gates")?)
+    check_untouched(rt, case, out.get(count..).ok_or("too many gates")?)
 }
 
 // The most gates that a plan for n places may have: 2n(n - 1).
@@ -242,9 +273,13 @@ fn all_single(words: &[u64]) -> bool {
 }
 
 // Checks that nothing was written to these entries.
-pub(crate) fn check_untouched(rt: &impl Abort, entries: &[u16]) -> Result<(), Fail> {
+pub(crate) fn check_untouched(
+    rt: &impl Abort,
+    case: Case<'_>,
+    entries: &[u16],
+) -> Result<(), Fail> {
     for entry in entries.iter() {
-        assert!(rt; *entry == UNTOUCHED);
+        assert!(rt; *entry == UNTOUCHED, "{case}");
     }
     Ok(())
 }

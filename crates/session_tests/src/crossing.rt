@@ -53,6 +53,7 @@ fn passes_of_sessions_with_one_number_are_alike(rt: HostRuntime) -> Result<(), F
 
 // Takes coupler 0 out, offers the pass to another session or machine, which turns it down, and gives it back.
 fn offer_to_session<L: Machine, R: Machine>(
+    rt: &impl Abort,
     first: &mut Session,
     left: &mut L,
     second: &mut Session,
@@ -62,12 +63,13 @@ fn offer_to_session<L: Machine, R: Machine>(
     let before = Look::of(second, right);
     let (faults, pass) = turned_down(second, right, pass)?;
     give(first, left, pass);
-    before.check_same(&Look::of(second, right))?;
+    before.check_same(rt, &Look::of(second, right))?;
     Ok(faults)
 }
 
 // The same with another machine for the same session.
 fn offer_on_machine<L: Machine, R: Machine>(
+    rt: &impl Abort,
     session: &mut Session,
     machine: &mut L,
     other: &mut R,
@@ -76,7 +78,7 @@ fn offer_on_machine<L: Machine, R: Machine>(
     let before = Look::of(session, other);
     let (faults, pass) = turned_down(session, other, pass)?;
     give(session, machine, pass);
-    before.check_same(&Look::of(session, other))?;
+    before.check_same(rt, &Look::of(session, other))?;
     Ok(faults)
 }
 
@@ -86,7 +88,7 @@ fn a_pass_of_another_number_is_turned_down(rt: HostRuntime) -> Result<(), Fail> 
     let (mut left, mut right) = (table(1, 3)?, tape(heap, 1, 3, 9)?);
     let mut first = Session::open(heap, 4, &left)?;
     let mut second = Session::open(heap, u32::MAX, &right)?;
-    let faults = offer_to_session(&mut first, &mut left, &mut second, &mut right)?;
+    let faults = offer_to_session(&rt, &mut first, &mut left, &mut second, &mut right)?;
     assert!(rt; faults[0] == SessionFault::OtherSession && faults[1] == SessionFault::OtherSession);
     assert_eq!(rt; (left.serves(0), right.serves(0)), (Ok(true), Ok(true)));
     Ok(())
@@ -95,12 +97,17 @@ fn a_pass_of_another_number_is_turned_down(rt: HostRuntime) -> Result<(), Fail> 
 // Checks that a machine of another size is refused by each call that is given it.
 fn check_size<M: Machine>(
     rt: &impl Abort,
+    columns: usize,
     session: &mut Session,
     machine: &mut M,
 ) -> Result<(), Fail> {
     let fault = SessionFault::SizeMismatch;
-    assert_eq!(rt; take_refusal(session, machine, 0), Some(fault));
-    assert_eq!(rt; session.flush(machine, &mut [0; 264]), Err(fault));
+    assert_eq!(rt; take_refusal(session, machine, 0), Some(fault), "{columns}");
+    assert_eq!(rt;
+        session.flush(machine, &mut [0; 264]),
+        Err(fault),
+        "{columns}"
+    );
     Ok(())
 }
 
@@ -113,8 +120,8 @@ fn a_machine_of_another_size_is_refused(rt: HostRuntime) -> Result<(), Fail> {
     // other places; as many places and other couplers
     for (rows, columns) in [(1, 2), (1, 4), (4, 1), (2, 3)] {
         let mut other = table(rows, columns)?;
-        check_size(&rt, &mut session, &mut other).note(columns)?;
-        let faults = offer_on_machine(&mut session, &mut machine, &mut other)?;
+        check_size(&rt, columns, &mut session, &mut other)?;
+        let faults = offer_on_machine(&rt, &mut session, &mut machine, &mut other)?;
         assert!(rt;
             faults[0] == SessionFault::SizeMismatch && faults[1] == SessionFault::SizeMismatch
         );

@@ -15,7 +15,8 @@ fn run<M: Machine>(rt: &impl Abort, heap: Global, machine: &mut M, seed: u64) ->
     // half of the couplers and one more out at once
     let depth = (machine.couplers() / 2).wrapping_add(1);
     for number in 0..4 {
-        nest(rt, &mut session, machine, &mut run, depth).note(number)?;
+        run.progress.part = number;
+        nest(rt, &mut session, machine, &mut run, depth)?;
     }
     Ok(run)
 }
@@ -28,28 +29,31 @@ fn check_grid(rt: &impl Abort, heap: Global, rows: usize, columns: usize) -> Res
         obeyed = obeyed.wrapping_add(run.obeyed);
         unreachable = unreachable.wrapping_add(run.unreachable);
     }
-    assert!(rt; obeyed > 60, "{}", obeyed);
-    assert!(rt; unreachable > 20, "{}", unreachable);
+    assert!(rt; obeyed > 60, "{rows}, {columns}: {obeyed}");
+    assert!(rt; unreachable > 20, "{rows}, {columns}: {unreachable}");
     Ok(())
 }
 
 #[test]
 fn random_runs_with_outages_follow_the_sheet(rt: HostRuntime) -> Result<(), Fail> {
     for (rows, columns) in [(1, 2), (1, 4), (2, 3), (3, 3), (3, 4)] {
-        check_grid(&rt, rt.alloc(), rows, columns)
-            .note(columns)
-            .note(rows)?;
+        check_grid(&rt, rt.alloc(), rows, columns)?;
     }
     Ok(())
 }
 
 // Checks that two machines of one chip have the same words and the same couplers in service.
-fn check_same<L: Machine, R: Machine>(rt: &impl Abort, left: &L, right: &R) -> Result<(), Fail> {
+fn check_same<L: Machine, R: Machine>(
+    rt: &impl Abort,
+    seed: u64,
+    left: &L,
+    right: &R,
+) -> Result<(), Fail> {
     for q in 0..left.width() {
-        assert_eq!(rt; left.word(q), right.word(q), "{}", q);
+        assert_eq!(rt; left.word(q), right.word(q), "{seed}: {q}");
     }
     for k in 0..left.couplers() {
-        assert_eq!(rt; left.serves(k), right.serves(k), "{}", k);
+        assert_eq!(rt; left.serves(k), right.serves(k), "{seed}: {k}");
     }
     Ok(())
 }
@@ -62,7 +66,7 @@ fn a_run_on_a_tape_is_the_run_on_a_table(rt: HostRuntime) -> Result<(), Fail> {
         let first = run(&rt, heap, &mut left, seed)?;
         let second = run(&rt, heap, &mut right, seed)?;
         assert_eq!(rt; first.trace, second.trace, "{}", seed);
-        check_same(&rt, &left, &right).note(seed)?;
+        check_same(&rt, seed, &left, &right)?;
     }
     Ok(())
 }

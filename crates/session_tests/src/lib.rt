@@ -1,5 +1,6 @@
 // Sessions on machines of both kinds: passes, refusals, limits, and random runs beside a sheet of the tests' own.
 #![tactic(auto)]
+
 #[cfg(test)]
 mod crossing;
 #[cfg(test)]

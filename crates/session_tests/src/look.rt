@@ -2,6 +2,7 @@
 use chip::Chip;
 use machine::Machine;
 use session::store::Session;
+use std::process::Abort;
 use std::test::*;
 
 #[derive(Clone, Copy)]
@@ -35,12 +36,12 @@ impl Look {
         look
     }
 
-    pub(crate) fn check_same(&self, later: &Look) -> Result<(), Fail> {
-        assert_eq!(self.allowance, later.allowance, "allowance");
+    pub(crate) fn check_same(&self, rt: &impl Abort, later: &Look) -> Result<(), Fail> {
+        assert_eq!(rt; self.allowance, later.allowance, "allowance");
         for i in 0..8 {
-            assert_eq!(self.places[i], later.places[i], "place");
-            assert_eq!(self.words[i], later.words[i], "word");
-            assert_eq!(self.serves[i], later.serves[i], "service");
+            assert_eq!(rt; self.places[i], later.places[i], "place");
+            assert_eq!(rt; self.words[i], later.words[i], "word");
+            assert_eq!(rt; self.serves[i], later.serves[i], "service");
         }
         Ok(())
     }

@@ -4,7 +4,7 @@ ghost use Rattle.session_tests.specs.Passes.{Ends, Keeps, KeepsOthers};
 
 use crate::passes::{give, write};
 use crate::random::Random;
-use crate::sheet::{Coupler, Sheet};
+use crate::sheet::{Coupler, Progress, Sheet};
 use chip::Chip;
 use machine::Machine;
 use session::pass::Pass;
@@ -25,6 +25,7 @@ pub(crate) struct Run {
     pub(crate) sheet: Sheet,
     random: Random,
     buffer: [u16; BUFFER],
+    pub(crate) progress: Progress,
     pub(crate) obeyed: usize,
     pub(crate) unreachable: usize,
     // a sum over all answers, which tells one list of them from another
@@ -37,6 +38,12 @@ impl Run {
             sheet: Sheet::new(couplers),
             random: Random::new(seed),
             buffer: [0; BUFFER],
+            progress: Progress {
+                seed,
+                couplers,
+                part: 0,
+                call: 0,
+            },
             obeyed: 0,
             unreachable: 0,
             trace: 0,
@@ -75,9 +82,14 @@ enum Call {
 }
 
 // A random call: mostly a CX, of wires on one island where that is easily had.
-fn random_call<M: Machine>(session: &Session, machine: &M, run: &mut Run) -> Result<Call, Fail> {
+fn random_call<M: Machine>(
+    rt: &impl Abort,
+    session: &Session,
+    machine: &M,
+    run: &mut Run,
+) -> Result<Call, Fail> {
     let n = session.wires();
-    let together = run.sheet.islands(machine)?;
+    let together = run.sheet.islands(rt, machine)?;
     let mut pair = run.random.pair(n);
     for _ in 0..4 {
         if !on_one(session, &together, pair) {
@@ -135,14 +147,15 @@ fn check_answer(
     answer: Result<usize, SessionFault>,
     reachable: bool,
 ) -> Result<(), Fail> {
+    let progress = run.progress;
     match call {
         Call::Cx { a, b } => {
-            assert_eq!(rt; answer, Ok(0));
-            run.sheet.cx(a, b)
+            assert_eq!(rt; answer, Ok(0), "{progress}");
+            run.sheet.cx(rt, a, b)
         }
         Call::Swap { a, b } => {
-            assert_eq!(rt; answer, Ok(0));
-            run.sheet.swap(a, b)
+            assert_eq!(rt; answer, Ok(0), "{progress}");
+            run.sheet.swap(rt, a, b)
         }
         Call::Flush => check_flush(rt, run, answer, reachable),
     }
@@ -155,20 +168,21 @@ fn check_flush(
     answer: Result<usize, SessionFault>,
     reachable: bool,
 ) -> Result<(), Fail> {
+    let progress = run.progress;
     match answer {
         Ok(gates) => {
-            assert!(rt; reachable, "two islands");
-            assert_eq!(rt; gates == 0, run.sheet.renames());
+            assert!(rt; reachable, "{progress}: two islands");
+            assert_eq!(rt; gates == 0, run.sheet.renames(), "{progress}");
             run.sheet.flushed();
             run.obeyed = run.obeyed.wrapping_add(1);
             run.note(gates as u64);
             Ok(())
         }
         Err(fault) => {
-            assert!(rt; !reachable, "one island");
+            assert!(rt; !reachable, "{progress}: one island");
             run.unreachable = run.unreachable.wrapping_add(1);
             run.note(1000);
-            assert_eq!(rt; fault, SessionFault::Unreachable);
+            assert_eq!(rt; fault, SessionFault::Unreachable, "{progress}");
             Ok(())
         }
     }
@@ -183,12 +197,12 @@ fn step<M: Machine>(
 ) -> Result<(), Fail>
     ensures { Keeps (state session.old (M.Chip.layout machine.old) (M.Machine.meaning machine.old)) (state session.new (M.Chip.layout machine.new) (M.Machine.meaning machine.new)) }
 {
-    let call = random_call(session, machine, run)?;
-    let reachable = run.sheet.reachable(session, machine)?;
+    let call = random_call(rt, session, machine, run)?;
+    let reachable = run.sheet.reachable(rt, session, machine)?;
     let answer = make(session, machine, &mut run.buffer, call);
     run.note_places(session);
     check_answer(rt, run, call, answer, reachable)?;
-    run.sheet.check(session, machine)
+    run.sheet.check(rt, run.progress, session, machine)
 }
 
 // Some random calls.
@@ -201,7 +215,8 @@ fn steps<M: Machine>(
     ensures { Keeps (state session.old (M.Chip.layout machine.old) (M.Machine.meaning machine.old)) (state session.new (M.Chip.layout machine.new) (M.Machine.meaning machine.new)) }
 {
     for number in 0..CALLS {
-        step(rt, session, machine, run).note(number)?;
+        run.progress.call = number;
+        step(rt, session, machine, run)?;
     }
     Ok(())
 }
@@ -241,13 +256,15 @@ pub(crate) fn nest<M: Machine>(
             let writes_off = run.random.below(8) == 0;
             finish(session, machine, pass, writes_off);
             run.ended(k, writes_off);
-            inside.note(k)?;
-            assert_eq!(rt; refusal, None);
+            inside?;
+            let progress = run.progress;
+            assert_eq!(rt; refusal, None, "{progress}: {k}");
             Ok(())
         }
         Err(fault) => {
-            assert_eq!(rt; refusal, Some(fault));
+            let progress = run.progress;
+            assert_eq!(rt; refusal, Some(fault), "{progress}: {k}");
             Ok(())
-        },
+        }
     }
 }

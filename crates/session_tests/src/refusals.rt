@@ -12,9 +12,14 @@ use std::process::Abort;
 use std::test::*;
 
 // Checks that no session is opened, since the machine is not new.
-fn check_not_new<M: Machine>(rt: &impl Abort, heap: Global, machine: &M) -> Result<(), Fail> {
+fn check_not_new<M: Machine>(
+    rt: &impl Abort,
+    why: &str,
+    heap: Global,
+    machine: &M,
+) -> Result<(), Fail> {
     let refused = Session::open(heap, 1, machine).err();
-    assert_eq!(rt; refused, Some(SessionFault::MachineNotNew));
+    assert_eq!(rt; refused, Some(SessionFault::MachineNotNew), "{why}");
     Ok(())
 }
 
@@ -23,10 +28,10 @@ fn a_machine_that_is_not_new_is_refused(rt: HostRuntime) -> Result<(), Fail> {
     let heap = rt.alloc();
     let mut machine = tape(heap, 1, 2, 4)?;
     machine.set(0, false)?;
-    check_not_new(&rt, heap, &machine).note("a coupler is out")?;
+    check_not_new(&rt, "a coupler is out", heap, &machine)?;
     machine.set(0, true)?;
     machine.cnot(1, 0)?;
-    check_not_new(&rt, heap, &machine).note("a word is not fresh")?;
+    check_not_new(&rt, "a word is not fresh", heap, &machine)?;
     check_words(&rt, &machine, &[3, 2])?;
     // the words are fresh again, and the allowance does not count
     machine.cnot(1, 0)?;
@@ -91,7 +96,7 @@ fn bad_arguments_change_nothing(rt: HostRuntime) -> Result<(), Fail> {
     let before = Look::of(&session, &machine);
     check_bad_arguments(&rt, &mut session, &mut machine)?;
     check_spent(&rt, &mut session, &mut machine)?;
-    before.check_same(&Look::of(&session, &machine))?;
+    before.check_same(&rt, &Look::of(&session, &machine))?;
     // the block is still the one CX: the same again undoes it, and an exchange then takes no gate
     session.cx(0, 3)?;
     session.swap(0, 3)?;
@@ -113,9 +118,9 @@ fn refused_while_out<M: Machine>(
     let flushed = session.flush(machine, &mut [0; 24]);
     let after = Look::of(session, machine);
     give(session, machine, pass);
-    assert_eq!(rt; taken, Some(SessionFault::CouplerNotIn));
-    assert_eq!(rt; flushed, Err(SessionFault::Unreachable));
-    before.check_same(&after)
+    assert_eq!(rt; taken, Some(SessionFault::CouplerNotIn), "{k}");
+    assert_eq!(rt; flushed, Err(SessionFault::Unreachable), "{k}");
+    before.check_same(rt, &after)
 }
 
 // A coupler that is written off stays out, and is never taken out again.
@@ -140,14 +145,14 @@ fn check_needed(rt: &impl Abort, heap: Global, k: usize) -> Result<(), Fail> {
     session.cx(0, 3)?;
     refused_while_out(rt, &mut session, &mut machine, k)?;
     let _ = session.flush(&mut machine, &mut [0; 24])?;
-    assert_eq!(rt; machine.word(session.place(3)?), Ok(0b1001));
+    assert_eq!(rt; machine.word(session.place(3)?), Ok(0b1001), "{k}");
     Ok(())
 }
 
 #[test]
 fn a_coupler_that_is_out_is_missed_until_it_is_back(rt: HostRuntime) -> Result<(), Fail> {
     for k in 0..3 {
-        check_needed(&rt, rt.alloc(), k).note(k)?;
+        check_needed(&rt, rt.alloc(), k)?;
     }
     Ok(())
 }

@@ -4,7 +4,31 @@ use machine::Machine;
 use machine::fault::MachineFault;
 use session::store::Session;
 use session_fault::SessionFault;
+use std::fmt;
+use std::process::Abort;
 use std::test::*;
+
+// How far a random run is, said where a check fails.
+#[derive(Clone, Copy)]
+pub(crate) struct Progress {
+    pub(crate) seed: u64,
+    // how many couplers the chip has
+    pub(crate) couplers: usize,
+    // how many times all outages were over
+    pub(crate) part: usize,
+    // the last call, of those between two outages
+    pub(crate) call: usize,
+}
+
+impl fmt::Display for Progress {
+    fn fmt<W: fmt::Write>(&self, f: &mut fmt::Formatter<W>) -> fmt::Result {
+        let (seed, couplers, part, call) = (self.seed, self.couplers, self.part, self.call);
+        write!(
+            f,
+            "{couplers} couplers, seed {seed}, part {part}, call {call}"
+        )
+    }
+}
 
 // The record of a coupler.
 #[derive(Clone, Copy, PartialEq, Eq)]
@@ -47,15 +71,15 @@ impl Sheet {
         }
     }
 
-    pub(crate) fn cx(&mut self, a: usize, b: usize) -> Result<(), Fail> {
-        assert!(a < 64 && b < 64);
+    pub(crate) fn cx(&mut self, rt: &impl Abort, a: usize, b: usize) -> Result<(), Fail> {
+        assert!(rt; a < 64 && b < 64);
         self.wanted[b] ^= self.wanted[a];
         self.block[b] ^= self.block[a];
         Ok(())
     }
 
-    pub(crate) fn swap(&mut self, a: usize, b: usize) -> Result<(), Fail> {
-        assert!(a < 64 && b < 64);
+    pub(crate) fn swap(&mut self, rt: &impl Abort, a: usize, b: usize) -> Result<(), Fail> {
+        assert!(rt; a < 64 && b < 64);
         let (wanted, block) = (self.wanted[a], self.block[a]);
         self.wanted[a] = self.wanted[b];
         self.block[a] = self.block[b];
@@ -103,13 +127,17 @@ impl Sheet {
 
     // For each place the set of places that hang together with it: places grow together over the couplers in service,
     // and after a pass for each place nothing grows any more.
-    pub(crate) fn islands<M: Machine>(&self, machine: &M) -> Result<[u64; 64], Fail> {
+    pub(crate) fn islands<M: Machine>(
+        &self,
+        rt: &impl Abort,
+        machine: &M,
+    ) -> Result<[u64; 64], Fail> {
         let mut together = single_words();
         for _ in 0..machine.width() {
             for k in 0..machine.couplers() {
                 if self.serves(k) {
                     let (left, right) = machine.ends(k)?;
-                    assert!(left < 64 && right < 64);
+                    assert!(rt; left < 64 && right < 64);
                     let both = together[left] | together[right];
                     together[left] = both;
                     together[right] = both;
@@ -122,12 +150,13 @@ impl Sheet {
     // Whether each word of the block has the places of its wires on one island.
     pub(crate) fn reachable<M: Machine>(
         &self,
+        rt: &impl Abort,
         session: &Session,
         machine: &M,
     ) -> Result<bool, Fail> {
-        let together = self.islands(machine)?;
+        let together = self.islands(rt, machine)?;
         for w in 0..64 {
-            if !on_one_island(places_of(session, self.block[w])?, &together) {
+            if !on_one_island(places_of(rt, session, self.block[w])?, &together) {
                 return Ok(false);
             }
         }
@@ -135,26 +164,32 @@ impl Sheet {
     }
 
     // Checks that each wire's place carries what the sheet says, and that the couplers serve as the sheet says.
-    pub(crate) fn check<M: Machine>(&self, session: &Session, machine: &M) -> Result<(), Fail> {
+    pub(crate) fn check<M: Machine>(
+        &self,
+        rt: &impl Abort,
+        progress: Progress,
+        session: &Session,
+        machine: &M,
+    ) -> Result<(), Fail> {
         for w in 0..64 {
             if let Ok(place) = session.place(w) {
-                assert_eq!(machine.word(place), Ok(self.carried[w]), "{}", w);
+                assert_eq!(rt; machine.word(place), Ok(self.carried[w]), "{progress}: {w}");
             }
         }
         for k in 0..machine.couplers() {
-            assert_eq!(machine.serves(k), Ok(self.serves(k)), "{}", k);
+            assert_eq!(rt; machine.serves(k), Ok(self.serves(k)), "{progress}: {k}");
         }
         Ok(())
     }
 }
 
 // The places of the wires in a word; wires that the session does not have are passed over.
-fn places_of(session: &Session, word: u64) -> Result<u64, Fail> {
+fn places_of(rt: &impl Abort, session: &Session, word: u64) -> Result<u64, Fail> {
     let mut places = 0;
     for w in 0..64 {
         if (word >> w) & 1 == 1 {
             if let Ok(p) = session.place(w) {
-                assert!(p < 64);
+                assert!(rt; p < 64);
                 places ^= 1u64 << p;
             }
         }

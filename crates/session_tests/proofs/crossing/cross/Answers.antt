@@ -14,8 +14,8 @@ give-requires g c =
     let m = g.R.Machine.meaning c.take_out-2.new.machine in
     moved v v l m c.in-Ok.theirs c.in_ok-faults.ours (take_ends _ _ _ _ c.in-Ok.ensures) (back.0 ∙ same) refl
 
-pub give_requires_in_Err : goal.give_requires_in_Err
-give_requires_in_Err g c =
+pub give-requires-in-Err : goal.give-requires-in-Err
+give-requires-in-Err g c =
     let v = view c.take_out.new.self in
     let l = g.L.Chip.layout c.take_out.new.machine in
     let m = g.L.Machine.meaning c.take_out.new.machine in

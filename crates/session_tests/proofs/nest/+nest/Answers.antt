@@ -4,12 +4,12 @@ use Rattle.session_tests.proofs.nest.+nest.Goals as goal
 pub finish-requires : goal.finish-requires
 finish-requires g t c = c.nest-inside.ensures.stays c.in-Ok.pass (take_ends _ _ _ c.in-Ok.pass c.in-Ok.ensures)
 
-pub returns-in_err-note : goal.returns-in_err-note
-returns-in_err-note g t c =
+pub returns-in_err-inside-in-Ok : goal.returns-in_err-inside-in-Ok
+returns-in_err-inside-in-Ok g t c =
     keeps_then _ _ _ c.steps.ensures (outage_keeps _ _ _ _ _ c.in-Ok.pass c.in-Ok.ensures c.nest-inside.ensures c.finish.ensures)
 
-pub returns-in_ok-note : goal.returns-in_ok-note
-returns-in_ok-note g t c =
+pub returns-in_ok-inside-in-Ok : goal.returns-in_ok-inside-in-Ok
+returns-in_ok-inside-in-Ok g t c =
     keeps_then _ _ _ c.steps.ensures (outage_keeps _ _ _ _ _ c.in-Ok.pass c.in-Ok.ensures c.nest-inside.ensures c.finish.ensures)
 
 pub returns-in-Err : goal.returns-in-Err
