@@ -1,5 +1,6 @@
 // Islands: which places hang together, trees on them, and gates that gather a set of places into one.
 #![tactic(auto)]
+
 ghost use Rattle.std.specs.Prelude.{◌≡◌, ℕ, ◌+◌, ◌-◌, ◌*◌, ◌^◌, ◌<◌, ◌≤◌, ◌≢◌, List, length, set, bit_and, bit_or, count_ones, slice_index, slice_set};
 ghost use Rattle.parity.specs.Words.{entry, replay};
 ghost use Rattle.parity.specs.Sets.{bit, xor_over};

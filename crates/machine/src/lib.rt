@@ -1,6 +1,7 @@
 // A machine: a chip that also acts. What it is known by is its layout and its meaning:
 // which couplers are in service, the word at each place, and how many gates it still takes.
 #![tactic(auto)]
+
 ghost use Rattle.std.specs.Prelude.{◌≡◌};
 ghost use Rattle.chip.specs.Answers.{answered, kept};
 ghost use Rattle.machine.specs.Meaning.{Meaning, Fitting, switched, played};

@@ -1,5 +1,6 @@
 // The planner: gates on couplers in service that bring each word of a block to a place, or the truth that there are none.
 #![tactic(auto)]
+
 pub mod adjacency;
 pub mod block;
 mod carry;

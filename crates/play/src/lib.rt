@@ -1,5 +1,6 @@
 // Plays a list of gates on any machine: proved once, against the machine's meaning.
 #![tactic(auto)]
+
 ghost use Rattle.std.specs.Prelude.{◌≡◌, ◌≤◌, map, length};
 ghost use Rattle.parity.specs.Words.{gate_of};
 ghost use Rattle.machine.specs.OnCoupler.{OnCouplers};

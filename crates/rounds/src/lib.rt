@@ -1,5 +1,6 @@
 // Plans for wanted sets: round by round, each wire is given a place of its own.
 #![tactic(auto)]
+
 ghost use Rattle.std.specs.Prelude.{◌≡◌, ℕ, ◌+◌, ◌-◌, ◌*◌, ◌^◌, ◌<◌, ◌≤◌, length, Some, None, count_ones, slice_index};
 ghost use Rattle.parity.specs.Sets.{bit};
 ghost use Rattle.parity.specs.Pairing.{dot};

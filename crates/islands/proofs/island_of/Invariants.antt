@@ -12,5 +12,5 @@ invariant-walk l =
     × (l.done < 2 ^ 64)
     × ((q r : ℕ) → bit l.done q ≡ 1 → bit (get_or l.adj q 0) r ≡ 1 → bit l.live r ≡ 1 → bit l.seen r ≡ 1)
 
-abbrev pub decreases_walk : goal.decreases_walk
-decreases_walk l = 2 ^ 64 - l.done
+abbrev pub decreases-walk : goal.decreases-walk
+decreases-walk l = 2 ^ 64 - l.done

@@ -17,8 +17,8 @@ loop-head-init c = (
 pub bounds-adj-q : goal.bounds-adj-q
 bounds-adj-q c = growing_below c.loop-head.invariant.2 c.loop-head.head c.loop-head-test.true
 
-pub offset_bounds_adj_q : goal.offset_bounds_adj_q
-offset_bounds_adj_q c = omega (arith, growing_below c.loop-head.invariant.2 c.loop-head.head c.loop-head-test.true)
+pub offset_bounds-adj-q : goal.offset_bounds-adj-q
+offset_bounds-adj-q c = omega (arith, growing_below c.loop-head.invariant.2 c.loop-head.head c.loop-head-test.true)
 
 pub loop-head-preserved-then-fresh-eq0 : goal.loop-head-preserved-then-fresh-eq0
 loop-head-preserved-then-fresh-eq0 c =

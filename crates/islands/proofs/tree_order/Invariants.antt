@@ -6,5 +6,5 @@ abbrev pub invariant-loop-head : goal.invariant-loop-head
 invariant-loop-head l =
     (l.head ≤ l.n) × (l.n ≤ length l.adj) × Growing l.adj l.live l.root l.order l.parent l.seen l.n l.head
 
-abbrev pub decreases_loop_head : goal.decreases_loop_head
-decreases_loop_head l = length l.adj + length l.adj - (l.head + l.n)
+abbrev pub decreases-loop-head : goal.decreases-loop-head
+decreases-loop-head l = length l.adj + length l.adj - (l.head + l.n)

@@ -25,14 +25,14 @@ returns-then-all_single_on c =
     let o = c.lowest-start.ensures.inside (dot_some (get_or xs w 0) (get_or c.args.duals.now w 0) c.requires.paired) in
     let l = c.requires.alive start o in
     let yes = c.if-all_single_on.ensures.yes refl in
-    let s = single_place (get_or xs w 0) (yes w c.requires.wire.0 start o (c.island_of-island.ensures.all-reached start here)) in
+    let s = single_place (get_or xs w 0) (yes w c.requires.wire.0 start o (c.island_of-island.ensures.all_reached start here)) in
     let e : s.0 ≡ start = place_is s.0 start (ap (λ (x : ℕ). bit x start) (sym s.1) ∙ o) in
     record {
       below = place_below (length c.args.adj.now) c.args.live start c.requires.inside l;
       alive = l;
       told = λ q. elim (bit_cases isl q) [
-        | inl z ↦ inr (λ p. zero_one (bit isl q) z (c.island_of-island.ensures.all-reached q p))
-        | inr k ↦ inl (c.island_of-island.ensures.only-reached q k)
+        | inl z ↦ inr (λ p. zero_one (bit isl q) z (c.island_of-island.ensures.all_reached q p))
+        | inr k ↦ inl (c.island_of-island.ensures.only_reached q k)
       ];
       given = inl (record {
         sets = refl;
@@ -40,7 +40,7 @@ returns-then-all_single_on c =
         entries = refl;
         stays = refl;
         single = s.1 ∙ ap (λ (m : ℕ). 2 ^ m) e;
-        others = λ v h q b p. yes v h q b (c.island_of-island.ensures.all-reached q p);
+        others = λ v h q b p. yes v h q b (c.island_of-island.ensures.all_reached q p);
       });
     }
 
@@ -82,7 +82,7 @@ returns c =
       told = e.told;
       given = inr (record {
         can_go = c.root-r.ensures.can_go;
-        busy = (n.0, n.1, n.2, (n.3.0, n.3.1, reach_trans back (c.island_of-island.ensures.only-reached n.3.0 n.3.2)));
+        busy = (n.0, n.1, n.2, (n.3.0, n.3.1, reach_trans back (c.island_of-island.ensures.only_reached n.3.0 n.3.2)));
         round = e.both;
       });
     }

@@ -8,5 +8,5 @@ invariant-loop-slot g l =
     Good (state l.session (g.M.Chip.layout l.initial.machine) (g.M.Machine.meaning l.initial.machine)) (vec_items l.slots)
     × (l.passes + filled_count (vec_items l.slots) ≡ filled_count (vec_items l.initial.slots))
 
-abbrev pub decreases_loop_slot : goal.decreases_loop_slot
-decreases_loop_slot g l = vec_len l.slots
+abbrev pub decreases-loop-slot : goal.decreases-loop-slot
+decreases-loop-slot g l = vec_len l.slots

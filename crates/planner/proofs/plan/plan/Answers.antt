@@ -39,19 +39,14 @@ invariant_of-result c =
     let found = subst (λ (m : ℕ). PlanIn (OnEdge (neighbours_of a)) m (words_of c.args.block.now) (places_of c.args.places.now) c.args.out.now c.plan_lists.new.out c.in-Some.gates (take m c.plan_lists.new.new))
     (neighbours_length a) (c.plan_lists.ensures.planned c.in-Some.gates c.in-Some.is) in
     let new = c.plan_lists.new.new in
-    let placed = found.reaches.placed in (
-      c.plan_lists.auto.new,
-      (
-        omega (arith, c.args.block.now.some, s.0),
-        (
-          a.few,
-          (
-            (λ w h. subst (λ (x : ℕ). x < a.n) (get_or-take a.n new w 0 h) (placed.below w h)),
-            ((λ v w t. placed.apart v w t.0 t.1 (get_or-take a.n new v 0 t.0 ∙ t.2 ∙ sym (get_or-take a.n new w 0 t.1))), tt),
-          ),
-        ),
-      ),
-    )
+    let placed = found.reaches.placed in
+    record {
+      room = c.plan_lists.auto.new;
+      some = omega (arith, c.args.block.now.some, s.0);
+      few = a.few;
+      below = λ w h. subst (λ (x : ℕ). x < a.n) (get_or-take a.n new w 0 h) (placed.below w h);
+      apart = λ v w t. placed.apart v w t.0 t.1 (get_or-take a.n new v 0 t.0 ∙ t.2 ∙ sym (get_or-take a.n new w 0 t.1));
+    }
 
 pub returns-in-Some : goal.returns-in-Some
 returns-in-Some c =

@@ -59,5 +59,5 @@ returns-in-None c =
       planned = λ j z. absurd (let q : ◌≡◌ {A = ℕ} 0 1 = cc in omega arith);
       unreachable = λ _. refused_none (length adj) c.args.words.now c.args.old.now c.requires.placed c.requires.below adj c.requires.graph refl refused;
       needs_two_islands = λ _. refused_some (length adj) c.args.words.now c.args.old.now c.requires.placed c.requires.below adj refused;
-      untouched = λ _. (c.plan.ensures.nothing-touched c.in-None.is).2;
+      untouched = λ _. (c.plan.ensures.nothing_touched c.in-None.is).2;
     }

@@ -34,7 +34,7 @@ returns c e x y nx ny a b =
     let one = c.single.ensures.place c.requires.has.1 in
     let same : c.island_of.result ≡ bit_xor isl c.single.result = eqb-true c.island_of.result (bit_xor isl c.single.result) (sym c.found_all.ensures ∙ e) in
     let at : (q : ℕ) → (q ≡ r → ⊥) → bit isl q ≡ 1 → Reach adj (bit_xor isl c.single.result) s q =
-    λ q n o. c.island_of.ensures.only-reached q
+    λ q n o. c.island_of.ensures.only_reached q
     (ap (λ (z : ℕ). bit z q) same ∙ ap (λ (z : ℕ). bit (bit_xor isl z) q) one ∙ flip_other isl r q n ∙ o) in
     subst (λ (z : ℕ). Reach adj (bit_xor isl z) x y) one
     (reach_trans (reach_back c.requires.graph (c.lowest.ensures.inside c.if-rest-eq0.false) (at x nx a)) (at y ny b))

@@ -41,8 +41,8 @@ hangs_together_without-requires c =
       small = c.requires.small;
       graph = c.requires.graph;
       inside = below_all (length adj) c.island_of-island.result
-          (λ q o. place_below (length adj) c.args.live q c.requires.inside.1 (reach_live c.requires.alive (c.island_of-island.ensures.only-reached q o)));
-      has = (c.island_of-island.ensures.all-reached r p, omega arith);
+          (λ q o. place_below (length adj) c.args.live q c.requires.inside.1 (reach_live c.requires.alive (c.island_of-island.ensures.only_reached q o)));
+      has = (c.island_of-island.ensures.all_reached r p, omega arith);
     }
 
 pub returns-then-hangs_together_without : goal.returns-then-hangs_together_without
@@ -53,15 +53,15 @@ returns-then-hangs_together_without c =
     let t = c.tree_order-n.ensures.tree in
     let r = get_or c.tree_order-n.new.order c.loop-i.i 0 in
     let p = tree_reached t c.requires.alive c.loop-i.i c.loop-i-test.true in
-    let on : (q : ℕ) → Reach adj live r q → bit isl q ≡ 1 = λ q s. c.island_of-island.ensures.all-reached q (reach_trans p s) in
+    let on : (q : ℕ) → Reach adj live r q → bit isl q ≡ 1 = λ q s. c.island_of-island.ensures.all_reached q (reach_trans p s) in
     record {
       below = t.below c.loop-i.i c.loop-i-test.true;
       alive = reach_live c.requires.alive p;
       reached = p;
       can_go = λ x y nx ny px py. reach_more
           (λ q o. elim (cases_eq q r) [
-            | inl e ↦ zero_one (bit (bit_xor isl (2 ^ r)) q) (ap (bit (bit_xor isl (2 ^ r))) e ∙ flip_off isl r (c.island_of-island.ensures.all-reached r p)) o
-            | inr n ↦ flip_other live r q n ∙ reach_live c.requires.alive (c.island_of-island.ensures.only-reached q (sym (flip_other isl r q n) ∙ o))
+            | inl e ↦ zero_one (bit (bit_xor isl (2 ^ r)) q) (ap (bit (bit_xor isl (2 ^ r))) e ∙ flip_off isl r (c.island_of-island.ensures.all_reached r p)) o
+            | inr n ↦ flip_other live r q n ∙ reach_live c.requires.alive (c.island_of-island.ensures.only_reached q (sym (flip_other isl r q n) ∙ o))
           ])
           (c.if-hangs_together_without.ensures refl x y nx ny (on x px) (on y py));
     }

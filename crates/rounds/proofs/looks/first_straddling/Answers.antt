@@ -33,7 +33,7 @@ loop-w-preserved c =
     λ q h. ap (λ (x : ℕ). bit x q) (c.all_below-live.ensures.places c.requires.small) ∙ all_below_has n q h in
     below_more (λ (v : ℕ). OneIsland adj (get_or xs v 0)) w c.loop-w.invariant
     (one_island_from adj c.all_below-live.result c.lowest.result (get_or xs w 0) c.requires.graph
-    (λ q o. c.island_of-island.ensures.only-reached q (set_unless isl q (λ z.
+    (λ q o. c.island_of-island.ensures.only_reached q (set_unless isl q (λ z.
     zero_one (bit c.off_island.result q) (ap (λ (x : ℕ). bit x q) (c.if-any.ensures.no refl) ∙ bit_none q)
     (c.off_island.ensures.all q (and_in (get_or xs w 0) live q o (alive q (place_below n (get_or xs w 0) q (c.requires.below w) o))) z)))))
 
@@ -53,7 +53,7 @@ returns-then-any c =
         has_from = c.lowest.ensures.inside (c.requires.some w c.loop-w-test.true);
         has_to = (and_parts (get_or xs w 0) c.all_below-live.result far.0 two.0).0;
         no_way = λ way. zero_one (bit isl far.0) two.1
-            (c.island_of-island.ensures.all-reached far.0
+            (c.island_of-island.ensures.all_reached far.0
             (way_reach c.requires.graph (λ q h. ap (λ (x : ℕ). bit x q) (c.all_below-live.ensures.places c.requires.small) ∙ all_below_has (length adj) q h) way));
       };
       before = c.loop-w.invariant;

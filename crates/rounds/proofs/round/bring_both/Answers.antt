@@ -46,14 +46,14 @@ bring-end-requires c =
     record {
       small = c.requires.small;
       inside = (c.requires.inside.0, c.requires.inside.1);
-      some = bit_some (bit_and y i) r (and_in y i r h (c.island_of-island.ensures.all-reached r here));
-      on_island = λ q o. c.island_of-island.ensures.only-reached q (and_parts y i q o).1;
+      some = bit_some (bit_and y i) r (and_in y i r h (c.island_of-island.ensures.all_reached r here));
+      on_island = λ q o. c.island_of-island.ensures.only_reached q (and_parts y i q o).1;
       alive = c.requires.alive;
       room = omega (arith, c.bring-mid.ensures.wrote.few);
     }
 
-pub carry_requires_2 : goal.carry_requires_2
-carry_requires_2 c = record {
+pub carry-requires-2 : goal.carry-requires-2
+carry-requires-2 c = record {
   range = (c.bring-end.ensures.wrote.forward, omega (arith, c.bring-mid.ensures.wrote.few, c.bring-end.ensures.wrote.few));
   places = each_map (TwoPlaces (length c.args.adj.now)) (TwoPlaces 64) (two_places_more (length c.args.adj.now) 64 c.requires.small)
       (gates_in c.bring-end.new.out c.bring-mid.result c.bring-end.result) c.bring-end.ensures.two_places;
@@ -122,15 +122,15 @@ returns c =
             (sym (ap turned all ∙ turned_append gs (turned hs) ∙ ap (λ (ks : List Gate). turned gs ++ ks) (turned_twice hs)))
             (moved_append (turned gs) hs B B1 B2 c.carry.ensures.moved_turned c.carry-2.ensures.moved);
         brought = c.carry-2.ensures.moved_turned w ∙ ap (acts (turned hs)) (c.carry.ensures.moved w ∙ b1.brought)
-            ∙ turned_still hs r (b2.spares-root (sym (and_same y isl r (c.island_of-island.ensures.all-reached r here)) ∙ has));
+            ∙ turned_still hs r (b2.spares_root (sym (and_same y isl r (c.island_of-island.ensures.all_reached r here)) ∙ has));
         dual_alone = λ q p. ap (λ (x : ℕ). bit x q) (c.carry-2.ensures.moved w)
             ∙ acts_agree (Reach adj live r) hs y (bit_and y isl)
             (each_map (OnIsland adj live r) (λ g. Reach adj live r g.1) (λ g f. f.1) hs b2.on_island)
-            (λ s t. and_same y isl s (c.island_of-island.ensures.all-reached s t)) q p
+            (λ s t. and_same y isl s (c.island_of-island.ensures.all_reached s t)) q p
             ∙ ap (λ (x : ℕ). bit x q) b2.brought;
       };
       told = λ q. elim (bit_cases isl q) [
-        | inl z ↦ inr (λ p. zero_one (bit isl q) z (c.island_of-island.ensures.all-reached q p))
-        | inr o ↦ inl (c.island_of-island.ensures.only-reached q o)
+        | inl z ↦ inr (λ p. zero_one (bit isl q) z (c.island_of-island.ensures.all_reached q p))
+        | inr o ↦ inl (c.island_of-island.ensures.only_reached q o)
       ];
     }

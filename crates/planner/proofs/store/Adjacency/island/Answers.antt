@@ -25,7 +25,7 @@ returns c q =
     let a = c.args.self.now in
     let l = neighbours_length a in
     let h : c.args.p < a.n = omega arith in (
-      (λ o. (h, reach_way (c.island_of.ensures.only-reached q o))),
-      (λ t. c.island_of.ensures.all-reached q (way_reach (neighbours_graph a)
+      (λ o. (h, reach_way (c.island_of.ensures.only_reached q o))),
+      (λ t. c.island_of.ensures.all_reached q (way_reach (neighbours_graph a)
           (λ r b. ap (λ (x : ℕ). bit x r) (c.all_below.ensures.places a.few) ∙ all_below_has a.n r (omega arith)) t.1)),
     )

@@ -43,7 +43,13 @@ invariant_of-result g c =
     let t : Shows l service (take c.width-n.result c.loop-k.rows) = subst (λ (n : ℕ). Shows l service (take n c.loop-k.rows)) (sym c.width-n.ensures) s in
     let graph = shows_graph l service (take c.width-n.result c.loop-k.rows) so t in
     let m = so.at_most_64 in
-    (c.loop-k.invariant.wide, (omega (arith, c.width-n.ensures), (graph.both, (graph.loopless, ((λ p q o. let b = graph.below p q o in let e = t.places in omega (arith, c.width-n.ensures)), tt)))))
+    record {
+      room = c.loop-k.invariant.wide;
+      few = omega (arith, c.width-n.ensures);
+      both = graph.both;
+      loopless = graph.loopless;
+      below = λ p q o. let b = graph.below p q o in let e = t.places in omega (arith, c.width-n.ensures);
+    }
 
 pub returns : goal.returns
 returns g c =

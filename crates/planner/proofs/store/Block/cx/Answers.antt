@@ -18,13 +18,17 @@ invariant_of-self c =
     (record { words_below = s.words_below; duals_below = s.duals_below; own = s.own; other = s.other })
     (omega (arith, s.few, s.word_room)) (omega (arith, s.few, s.dual_room)) two.0 two.1 two.2 in
     let e = subst (λ (ws : List ℕ). Dual s.n ws c.add_into-2.new.words) (sym c.add_into.ensures)
-    (subst (Dual s.n (cnot (c.args.a, c.args.b) s.words)) (sym c.add_into-2.ensures) d) in (
-      ap length c.add_into.ensures ∙ length_cnot s.words (c.args.a, c.args.b) ∙ s.word_room,
-      (
-        ap length c.add_into-2.ensures ∙ length_cnot s.duals (c.args.b, c.args.a) ∙ s.dual_room,
-        (s.some, (s.few, (e.words_below, (e.duals_below, (e.own, (e.other, tt)))))),
-      ),
-    )
+    (subst (Dual s.n (cnot (c.args.a, c.args.b) s.words)) (sym c.add_into-2.ensures) d) in
+    record {
+      word_room = ap length c.add_into.ensures ∙ length_cnot s.words (c.args.a, c.args.b) ∙ s.word_room;
+      dual_room = ap length c.add_into-2.ensures ∙ length_cnot s.duals (c.args.b, c.args.a) ∙ s.dual_room;
+      some = s.some;
+      few = s.few;
+      words_below = e.words_below;
+      duals_below = e.duals_below;
+      own = e.own;
+      other = e.other;
+    }
 
 pub returns : goal.returns
 returns c =

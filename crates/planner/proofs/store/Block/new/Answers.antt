@@ -12,7 +12,16 @@ invariant_of-result c =
     let d : Dual c.args.n c.fresh_words.result c.fresh_words-2.result =
     subst (λ (ws : List ℕ). Dual c.args.n ws c.fresh_words-2.result) (sym c.fresh_words.ensures)
     (subst (Dual c.args.n (fresh 64)) (sym c.fresh_words-2.ensures) (fresh_dual c.args.n n)) in
-    (ap length c.fresh_words.ensures ∙ length_fresh 64, (ap length c.fresh_words-2.ensures ∙ length_fresh 64, (omega arith, (n, (d.words_below, (d.duals_below, (d.own, (d.other, tt))))))))
+    record {
+      word_room = ap length c.fresh_words.ensures ∙ length_fresh 64;
+      dual_room = ap length c.fresh_words-2.ensures ∙ length_fresh 64;
+      some = omega arith;
+      few = n;
+      words_below = d.words_below;
+      duals_below = d.duals_below;
+      own = d.own;
+      other = d.other;
+    }
 
 pub returns : goal.returns
 returns c = record {

@@ -17,7 +17,16 @@ invariant_of-self c =
     (omega (arith, s.few, s.word_room)) (omega (arith, s.few, s.dual_room)) two.0 two.1 two.2 in
     let e = subst (λ (ws : List ℕ). Dual s.n ws c.exchange-2.new.words) (sym c.exchange.ensures)
     (subst (Dual s.n (traded c.args.a c.args.b s.words)) (sym c.exchange-2.ensures) d) in
-    (ap length c.exchange.ensures ∙ length_traded s.words c.args.a c.args.b ∙ s.word_room, (ap length c.exchange-2.ensures ∙ length_traded s.duals c.args.a c.args.b ∙ s.dual_room, (s.some, (s.few, (e.words_below, (e.duals_below, (e.own, (e.other, tt))))))))
+    record {
+      word_room = ap length c.exchange.ensures ∙ length_traded s.words c.args.a c.args.b ∙ s.word_room;
+      dual_room = ap length c.exchange-2.ensures ∙ length_traded s.duals c.args.a c.args.b ∙ s.dual_room;
+      some = s.some;
+      few = s.few;
+      words_below = e.words_below;
+      duals_below = e.duals_below;
+      own = e.own;
+      other = e.other;
+    }
 
 pub returns : goal.returns
 returns c =

@@ -20,9 +20,9 @@ returns-in_err-plan_on g c =
     let o = c.plan_on.ensures in
     let p = err_from_is_err_and c.from_residual-in_err-plan_on.result c.from_residual-in_err-plan_on.ensures.1 in
     rw (p.1, p.2)
-    (flush_refused s s.layout.places c.args.buffer.now c.plan_on.new.out f z e (o.refused-untouched f was) (record {
-      sizes = λ q. o.mismatch-exactly.0 (was ∙ ap Err q) (sym e, c.args.self.now.same_size ∙ sym e);
-      shorter = λ k q. let h = (o.short-exactly k).0 (was ∙ ap Err q) in (h.1, h.2);
+    (flush_refused s s.layout.places c.args.buffer.now c.plan_on.new.out f z e (o.refused_untouched f was) (record {
+      sizes = λ q. o.mismatch_exactly.0 (was ∙ ap Err q) (sym e, c.args.self.now.same_size ∙ sym e);
+      shorter = λ k q. let h = (o.short_exactly k).0 (was ∙ ap Err q) in (h.1, h.2);
       none = λ q. let h = o.unreachable_exactly.0 (was ∙ ap Err q) in (h.1, h.2);
     }))
 
@@ -36,5 +36,5 @@ returns g c =
     let o = c.plan_on.ensures in
     let h = o.planned p was in
     planned_for s s.layout.places c.args.buffer.now c.plan_on.new.out p z e
-    (long_enough s.layout.places _ _ c.plan_on.result p o.short-exactly (sym e, c.args.self.now.same_size ∙ sym e) was)
+    (long_enough s.layout.places _ _ c.plan_on.result p o.short_exactly (sym e, c.args.self.now.same_size ∙ sym e) was)
     h.0 h.1
