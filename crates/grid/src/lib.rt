@@ -1,5 +1,6 @@
 // A chip whose places stand in rows and columns, each joined to its neighbours.
 #![tactic(auto)]
+
 ghost use Rattle.std.specs.Prelude.{◌≡◌};
 ghost use Rattle.chip.specs.Answers.{answered};
 ghost use Rattle.grid.specs.Grid.{grid_fault, grid_layout, grid_couplers, grid_ends, grid_coupler_fault};

@@ -1,5 +1,5 @@
 -- Marks as the service of a chip's couplers.
-use Rattle.std.proofs.Common.{◌≡◌, ℕ, ◌<◌, ◌≤◌, Bool, true, false, List, length, get_or, take, set, replicate, sym, ap, ◌∙◌, arith, get_or-take}
+use Rattle.std.proofs.Common.{◌≡◌, ℕ, ◌<◌, Bool, true, false, length, get_or, take, set, replicate, sym, ap, ◌∙◌, arith, get_or-take}
 use lib.Seq.{take-set-lt}
 use Rattle.std.proofs.lemmas.List.{length-take, take-replicate}
 use Rattle.chip.specs.Layout.{Layout, Sound}

@@ -1,5 +1,5 @@
 -- Which refusal each call of a machine gives, if any: the checks in their order.
-use Rattle.std.specs.Prelude.{ℕ, Bool, false, cond, not, ◌&&◌, length, Some, None, Option, ◌==◌, nat_le, nat_lt, slice_index, slice_index_or}
+use Rattle.std.specs.Prelude.{ℕ, Bool, false, cond, ◌&&◌, length, Some, None, Option, ◌==◌, nat_le, nat_lt, slice_index, slice_index_or}
 use Rattle.chip.specs.Layout.{Layout}
 use Rattle.chip.specs.Chips.{joining}
 use Rattle.machine.specs.declared.fault.MachineFault.{MachineFault}

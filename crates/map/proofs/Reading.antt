@@ -1,5 +1,5 @@
 -- What the bytes of a map file say, cut into left ends and right ends as the reader cuts them.
-use Rattle.std.proofs.Common.{◌≡◌, ℕ, ◌+◌, ◌-◌, ◌*◌, ◌<◌, ◌≤◌, List, map, length, get_or, take, drop, None, Ok, Err, Result, sym, refl, ap, ◌∙◌, ap₂, add_assoc, arith, MatchResult}
+use Rattle.std.proofs.Common.{◌≡◌, ℕ, ◌+◌, ◌-◌, ◌*◌, ◌<◌, ◌≤◌, List, length, get_or, take, drop, None, Ok, Err, Result, sym, refl, ap, ◌∙◌, ap₂, add_assoc, arith, MatchResult}
 use Rattle.std.specs.List.{between}
 use Rattle.std.proofs.lemmas.List.{get_or-take, get_or-drop, length-take-le, length-drop, take_rest}
 use Rattle.std.proofs.lemmas.Bool.{le-leb, eq-eqb}

@@ -1,6 +1,7 @@
 // A chip read from a map file: byte 0 is the number of places, bytes 1 and 2 the number of couplers m, low byte first,
 // then m left ends and m right ends, a byte each.
 #![tactic(auto)]
+
 ghost use Rattle.std.specs.Prelude.{◌≡◌, ◌≤◌, false, length, vec_len, MatchResult};
 ghost use Rattle.std.specs.List.{between};
 ghost use Rattle.chip.specs.Answers.{answered};

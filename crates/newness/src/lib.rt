@@ -1,5 +1,6 @@
 // Whether a machine is new: fresh words, and every coupler in service.
 #![tactic(auto)]
+
 ghost use Rattle.std.specs.Prelude.{◌≡◌, ◌<◌, true, false, length, replicate, ◌≢◌, slice_index, slice_index_or};
 ghost use Rattle.parity.specs.Words.{fresh};
 ghost use Rattle.newness.specs.New.{NewMachine};

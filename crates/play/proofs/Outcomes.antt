@@ -1,16 +1,16 @@
 -- Playing gate by gate.
-use Rattle.std.proofs.Common.{◌≡◌, ℕ, ◌+◌, ◌-◌, ◌*◌, ◌/◌, ◌%◌, ◌<◌, ◌≤◌, List, [], ◌∷◌, map, length, get_or, drop, Some, None, Ok, Err, Option, Result, sym, refl, ap, ◌∙◌, ap₂, add-one, arith, drop-cons}
+use Rattle.std.proofs.Common.{◌≡◌, ℕ, ◌+◌, ◌<◌, ◌≤◌, List, [], ◌∷◌, map, length, get_or, drop, Some, None, Ok, Err, Option, Result, sym, refl, ap, ◌∙◌, ap₂, add-one, arith, drop-cons}
 use lib.ListN.{length-map}
 use Rattle.std.proofs.lemmas.List.{at_drop_all}
 use Rattle.std.proofs.lemmas.Bool.{le-leb}
-use Rattle.chip.specs.Answers.{answered, kept}
+use Rattle.chip.specs.Answers.{kept}
 use Rattle.chip.specs.Layout.{Layout, Sound}
 use Rattle.chip.proofs.Answers.{answered_ok, answered_err}
 use Rattle.parity.specs.Words.{Gate, cnot, entry, gate_of, replay}
 use Rattle.parity.proofs.Words.{rereads}
 use Rattle.machine.specs.declared.fault.MachineFault.{MachineFault}
 use Rattle.machine.specs.Meaning.{Meaning, played}
-use Rattle.machine.specs.Calls.{fits_fault, cnot_fault}
+use Rattle.machine.specs.Calls.{cnot_fault}
 use Rattle.machine.specs.OnCoupler.{OnCouplers}
 use Rattle.machine.proofs.OnCouplers.{ends_of, on_coupler_obeys}
 use Rattle.play.specs.Playing.{Turn, onward, outcome, replayed, PlayedWhole}

@@ -1,5 +1,5 @@
 -- The table's words and marks as a machine's meaning.
-use Rattle.std.specs.Prelude.{◌≡◌, ℕ, ◌+◌, ◌-◌, ◌*◌, ◌/◌, ◌%◌, ◌^◌, ◌<◌, ◌≤◌, Bool, true, false, cond, List, map, length, take, set, replicate, bit_and, bit_xor, slice_index, slice_index_or, slice_set, refl}
+use Rattle.std.specs.Prelude.{◌≡◌, ℕ, ◌-◌, ◌%◌, ◌^◌, ◌<◌, ◌≤◌, Bool, true, List, map, length, take, set, replicate, bit_and, bit_xor, slice_index, slice_index_or, slice_set}
 use Rattle.std.proofs.Common.{sym, ap, ap₂, ◌∙◌, mod-lt, mod-eq_of_lt, arith, get_or-take, pow_pos}
 use Rattle.std.proofs.Math.ListN.{get_or-map}
 use Rattle.std.proofs.Math.Seq.{take-set-lt}
@@ -7,10 +7,10 @@ use Rattle.std.proofs.Math.Pow.{pow-lt}
 use Rattle.std.proofs.lemmas.Nat.{xor_comm, xor_mod, and_mask}
 use Rattle.std.proofs.lemmas.List.{length-map, length-take, map-set}
 use Rattle.chip.specs.Layout.{Layout, Sound}
-use Rattle.parity.specs.Words.{Gate, cnot, fresh}
-use Rattle.parity.proofs.Words.{length_fresh, get_d_fresh, take_fresh, fresh_from}
+use Rattle.parity.specs.Words.{cnot, fresh}
+use Rattle.parity.proofs.Words.{length_fresh, get_d_fresh, fresh_from}
 use Rattle.machine.specs.declared.marks.Marks.{Marks}
-use Rattle.machine.specs.Meaning.{Meaning, Fitting, played, new}
+use Rattle.machine.specs.Meaning.{Fitting, played, new}
 use Rattle.machine.specs.Service.{service_of}
 use Rattle.machine.proofs.Services.{one_mark_each, all_in}
 use Rattle.table.specs.Table.{table_meaning}

@@ -1,4 +1,5 @@
 // The table machine: keeps the word at each place.
 #![tactic(auto)]
+
 pub mod acts;
 pub mod store;

@@ -1,12 +1,12 @@
 -- The tape's gates as a machine's meaning.
-use Rattle.std.specs.Prelude.{◌≡◌, ℕ, ◌+◌, ◌-◌, ◌*◌, ◌<◌, ◌≤◌, Bool, true, List, [], ◌∷◌, ◌++◌, map, length, take, replicate, slice_index, refl}
-use Rattle.std.proofs.Common.{sym, ap, ap₂, ◌∙◌, arith, length-append}
+use Rattle.std.specs.Prelude.{◌≡◌, ℕ, ◌+◌, ◌-◌, ◌*◌, ◌<◌, Bool, true, List, [], ◌∷◌, ◌++◌, map, length, take, replicate, slice_index}
+use Rattle.std.proofs.Common.{ap, ap₂, ◌∙◌, arith, length-append}
 use Rattle.std.proofs.lemmas.List.{get_or_append_left, map-append}
 use Rattle.chip.specs.Layout.{Layout, Sound}
-use Rattle.parity.specs.Words.{Gate, cnot, fresh, gate_of, entry, replay}
+use Rattle.parity.specs.Words.{Gate, cnot, fresh, gate_of, replay}
 use Rattle.parity.proofs.Words.{length_fresh, take_fresh, length_replay, below_fresh, below_replay, replay_append, rereads}
 use Rattle.machine.specs.declared.marks.Marks.{Marks}
-use Rattle.machine.specs.Meaning.{Meaning, Fitting, played, new}
+use Rattle.machine.specs.Meaning.{Fitting, played, new}
 use Rattle.machine.specs.Service.{service_of}
 use Rattle.machine.proofs.Services.{one_mark_each, all_in}
 use Rattle.tape.specs.Tape.{tape_meaning}

@@ -1,4 +1,4 @@
-use Rattle.std.proofs.Common.{◌≡◌, ℕ, ◌<◌, ◌≤◌, length, sym, ◌∙◌, arith}
+use Rattle.std.proofs.Common.{◌≡◌, ℕ, length, arith}
 use Rattle.newness.proofs.Newness.{all_true, not_all_true}
 use Rattle.newness.proofs.has_all_in_service.Goals as goal
 

@@ -1,4 +1,4 @@
-use Rattle.std.proofs.Common.{◌≡◌, ℕ, ◌<◌, ◌≤◌, arith}
+use Rattle.std.proofs.Common.{◌≡◌, ℕ, ◌<◌, arith}
 use Rattle.parity.proofs.Words.{fresh_from}
 use Rattle.newness.proofs.Newness.{not_fresh}
 use Rattle.newness.proofs.has_fresh_words.Goals as goal
