@@ -1,6 +1,7 @@
 // The console: a script from standard input, a command a line, rehearsed on a simulated chip.
 // A command's reading, doing and answer are the libraries'; here is only what reaches outside.
 #![tactic(auto)]
+
 use command::{Command, read};
 use simulation::obey::obey;
 use simulation::setup::Setup;
