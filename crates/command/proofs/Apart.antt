@@ -1,6 +1,6 @@
 -- A filling is known by how it is spelled.
-use Rattle.std.proofs.Common.{◌≡◌, ◌⊎◌, [], ◌∷◌, map, length, decimal, sym, refl, ap, ◌∙◌, subst, ⊎_elim, arith}
-use Rattle.std.specs.List.{AllByRecursion as All}
+use Rattle.std.proofs.Common.{◌≡◌, [], ◌∷◌, map, length, decimal, sym, refl, ap, ◌∙◌, subst, ⊎_elim, arith}
+use Rattle.std.specs.List.{AllByRecursion}
 use Rattle.std.proofs.lemmas.Fmt.{decimal_injective}
 use Rattle.command.specs.declared.Command.{Command}
 use Rattle.command.specs.declared.verb.Verb.{Verb}
@@ -11,7 +11,7 @@ use Rattle.command.specs.Alike.{SaidApart}
 use Rattle.command.proofs.Naming.{same_verb}
 use Rattle.command.proofs.Spelling.{ByVerb, by_verb}
 
-same_filling : (s : Shape) (x y : Filling s) → All Held (filled s x) → All Held (filled s y) → map spelling (filled s x) ≡ map spelling (filled s y) → filled s x ≡ filled s y
+same_filling : (s : Shape) (x y : Filling s) → AllByRecursion Held (filled s x) → AllByRecursion Held (filled s y) → map spelling (filled s x) ≡ map spelling (filled s y) → filled s x ≡ filled s y
 same_filling bare x y h k e = refl
 same_filling one_word x y h k e = let d : x ≡ y = cc in ap (λ w. plain w ∷ []) d
 same_filling one_number x y h k e =
@@ -27,7 +27,7 @@ same_filling two_numbers x y h k e =
 -- fillings of one verb's shape, where the verbs are shown to be one
 abbrev SameParts : Verb → Verb → Type 0
 SameParts v u =
-    (x : Filling (shape v)) (y : Filling (shape u)) → All Held (filled (shape v) x) → All Held (filled (shape u) y) →
+    (x : Filling (shape v)) (y : Filling (shape u)) → AllByRecursion Held (filled (shape v) x) → AllByRecursion Held (filled (shape u) y) →
     map spelling (filled (shape v) x) ≡ map spelling (filled (shape u) y) →
     plain (name_of v) ∷ filled (shape v) x ≡ plain (name_of u) ∷ filled (shape u) y
 
@@ -35,12 +35,12 @@ same_parts : (v u : Verb) → v ≡ u → SameParts v u
 same_parts v u e =
     subst (SameParts v) e (λ x y h k s. ap (λ ps. plain (name_of v) ∷ ps) (same_filling (shape v) x y h k s))
 
-same_cast : (c d : Command) (k : ByVerb c) (l : ByVerb d) → All Held (parts c) → All Held (parts d) → spelled c ≡ spelled d → parts c ≡ parts d
+same_cast : (c d : Command) (k : ByVerb c) (l : ByVerb d) → AllByRecursion Held (parts c) → AllByRecursion Held (parts d) → spelled c ≡ spelled d → parts c ≡ parts d
 same_cast c d k l h g s =
     let e : name_of k.0 ∷ map spelling (filled (shape k.0) k.1) ≡ name_of l.0 ∷ map spelling (filled (shape l.0) l.1) = ap (map spelling) (sym k.2) ∙ s ∙ ap (map spelling) l.2 in
     let names : name_of k.0 ≡ name_of l.0 = cc in
     let rests : map spelling (filled (shape k.0) k.1) ≡ map spelling (filled (shape l.0) l.1) = cc in
-    k.2 ∙ same_parts k.0 l.0 (same_verb k.0 l.0 names) k.1 l.1 (subst (All Held) k.2 h).1 (subst (All Held) l.2 g).1 rests ∙ sym l.2
+    k.2 ∙ same_parts k.0 l.0 (same_verb k.0 l.0 names) k.1 l.1 (subst (AllByRecursion Held) k.2 h).1 (subst (AllByRecursion Held) l.2 g).1 rests ∙ sym l.2
 
 none_some : {A : Type 0} (c d : Command) → parts c ≡ [] → ByVerb d → spelled c ≡ spelled d → A
 none_some c d z l s = absurd (omega (arith, ap length (ap (map spelling) (sym z) ∙ s ∙ ap (map spelling) l.2)))

@@ -1,6 +1,6 @@
 -- A command's words are its verb's name and a filling of the verb's shape.
 use Rattle.std.proofs.Common.{◌≡◌, ℕ, ◌⊎◌, List, [], ◌∷◌, map, length, Some, None, Option, sym, refl, ap, ◌∙◌, subst, inl, inr, ⊎_elim, arith, MatchOption}
-use Rattle.std.specs.List.{AllByRecursion as All}
+use Rattle.std.specs.List.{AllByRecursion}
 use Rattle.command.specs.declared.Command.{Command}
 use Rattle.command.specs.declared.Command.TheVariants.{Nothing, Grid, Map, Table, Tape, Out, In, Cnot, Words, Serves, Allowance}
 use Rattle.command.specs.declared.verb.Verb.{Verb}
@@ -47,7 +47,7 @@ unfilled ws later w v e n none c (held, s) =
     let same : w ∷ later ≡ name_of k.0 ∷ map spelling (filled (shape k.0) k.1) = sym e ∙ s ∙ ap (map spelling) k.2 in
     let named : name_of v ≡ name_of k.0 = cc in
     let none' : Unfilled (shape k.0) later = subst (λ u. Unfilled (shape u) later) (same_verb v k.0 named) none in
-    let held' : All Held (plain (name_of k.0) ∷ filled (shape k.0) k.1) = subst (All Held) k.2 held in
+    let held' : AllByRecursion Held (plain (name_of k.0) ∷ filled (shape k.0) k.1) = subst (AllByRecursion Held) k.2 held in
     let rest : later ≡ map spelling (filled (shape k.0) k.1) = cc in
     none' k.1 (held'.1, rest))
     (by_verb c)
@@ -57,4 +57,4 @@ pub bare_tells : {v u : Verb} (d : Command) (ws : List (List ℕ)) (r : Option C
 bare_tells {v} {u} d ws None e b s h = subst (λ t. Unfilled t ws) (sym (ap shape e ∙ b)) h
 bare_tells {v} {u} d ws (Some c) e b s h =
     let p : parts c ≡ plain (name_of u) ∷ [] = ap parts h.1 ∙ s in
-    (subst (All Held) (sym p) (tt, tt), (λ i. name_of (e i) ∷ h.0.1 i) ∙ ap (map spelling) (sym p))
+    (subst (AllByRecursion Held) (sym p) (tt, tt), (λ i. name_of (e i) ∷ h.0.1 i) ∙ ap (map spelling) (sym p))

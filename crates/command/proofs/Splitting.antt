@@ -1,6 +1,6 @@
 -- How the words of a line follow from its front.
 use Rattle.std.proofs.Common.{◌≡◌, ℕ, zero, suc, ◌+◌, ◌-◌, ◌<◌, true, false, eqb, List, [], ◌∷◌, ◌++◌, length, get_or, take, drop, sym, refl, ap, ◌∙◌, subst, ⊎_elim, arith}
-use Rattle.std.specs.List.{AllByRecursion as All}
+use Rattle.std.specs.List.{AllByRecursion}
 use Rattle.std.proofs.lemmas.List.{append-nil, append_assoc, take-append-drop, drop_more, drop_all, length-drop, get_or-drop, take_rest}
 use Rattle.std.proofs.lemmas.Bool.{cond-true, cond-false, cond_both, both_ways, cases_lt, ne_eqb, eqb-true, eqb-false, or_parts, or_cases}
 use Rattle.command.specs.Words.{blank, ended, runs, marked, uncommented, words, Front, Parted, wordless}
@@ -9,11 +9,11 @@ runs_gap : (b : ℕ) (bs : List ℕ) → blank b ≡ true → runs [] (b ∷ bs)
 unfolding runs
 runs_gap b bs e = cond-true _ _ _ e
 
-runs_gaps : (gap rest : List ℕ) → All (λ b. blank b ≡ true) gap → runs [] (gap ++ rest) ≡ runs [] rest
+runs_gaps : (gap rest : List ℕ) → AllByRecursion (λ b. blank b ≡ true) gap → runs [] (gap ++ rest) ≡ runs [] rest
 runs_gaps [] rest a = refl
 runs_gaps (b ∷ gap) rest a = runs_gap b (gap ++ rest) a.0 ∙ runs_gaps gap rest a.1
 
-runs_on : (run w rest : List ℕ) → All (λ b. blank b ≡ false) w → runs run (w ++ rest) ≡ runs (run ++ w) rest
+runs_on : (run w rest : List ℕ) → AllByRecursion (λ b. blank b ≡ false) w → runs run (w ++ rest) ≡ runs (run ++ w) rest
 unfolding runs
 runs_on run [] rest a = ap (λ r. runs r rest) (sym (append-nil run))
 runs_on run (b ∷ w) rest a =
@@ -29,7 +29,7 @@ pub words_gap : (b : ℕ) (bs : List ℕ) → blank b ≡ true → words (b ∷ 
 words_gap b bs e = ap uncommented (runs_gap b bs e)
 
 -- a word at the front
-pub words_word : (b : ℕ) (bs rest : List ℕ) → All (λ b. blank b ≡ false) (b ∷ bs) → marked (b ∷ bs) ≡ false → Parted rest → words ((b ∷ bs) ++ rest) ≡ (b ∷ bs) ∷ words rest
+pub words_word : (b : ℕ) (bs rest : List ℕ) → AllByRecursion (λ b. blank b ≡ false) (b ∷ bs) → marked (b ∷ bs) ≡ false → Parted rest → words ((b ∷ bs) ++ rest) ≡ (b ∷ bs) ∷ words rest
 words_word b bs rest a m p =
     ap uncommented (runs_on [] (b ∷ bs) rest a ∙ runs_parted (b ∷ bs) rest p) ∙ cond-false _ _ _ m
 

@@ -1,6 +1,6 @@
 -- How commands are spelled in words, and what a line's reading says.
 use Rattle.std.specs.Prelude.{◌≡◌, ℕ, ◌^◌, ◌<◌, List, [], ◌∷◌, map, Ok, Err, codes, decimal, Result, ◌≢◌, slice_index_or}
-use Rattle.std.specs.List.{AllByRecursion as All}
+use Rattle.std.specs.List.{AllByRecursion}
 use Rattle.command.specs.declared.Command.{Command}
 use Rattle.command.specs.declared.Command.TheVariants.{Nothing, Grid, Map, Table, Tape, Out, In, Cnot, Words, Serves, Allowance}
 use Rattle.command.specs.declared.verb.Verb.{Verb}
@@ -41,7 +41,7 @@ Held (numeral n) = n < 2 ^ 64
 
 -- these words say the command
 abbrev pub Says : List (List ℕ) → Command → Type 0
-Says ws c = All Held (parts c) × (ws ≡ spelled c)
+Says ws c = AllByRecursion Held (parts c) × (ws ≡ spelled c)
 
 -- the mistake goes by the first word alone
 abbrev pub Blames : List (List ℕ) → Mistake → Type 0

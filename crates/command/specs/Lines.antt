@@ -1,12 +1,12 @@
 -- Lines from the writer's side: words with gaps between them, and then perhaps a comment.
 use Rattle.std.specs.Prelude.{◌≡◌, ℕ, ◌<◌, true, false, ◌↔◌, List, [], ◌∷◌, ◌++◌, length}
-use Rattle.std.specs.List.{AllByRecursion as All}
+use Rattle.std.specs.List.{AllByRecursion}
 use Rattle.command.specs.Words.{blank, marked, words, Parted}
 
 -- some bytes, none of them a blank, and the first no comment mark
 pub record Word (w : List ℕ) : Type 0 where
   pub some : 0 < length w
-  pub solid : All (λ b. blank b ≡ false) w
+  pub solid : AllByRecursion (λ b. blank b ≡ false) w
   pub unmarked : marked w ≡ false
 
 -- the line has these words

@@ -1,6 +1,6 @@
 -- What stands behind a command's name: nothing, a word, a number or two.
 use Rattle.std.specs.Prelude.{◌≡◌, ℕ, List, [], ◌∷◌, map}
-use Rattle.std.specs.List.{AllByRecursion as All}
+use Rattle.std.specs.List.{AllByRecursion}
 use Rattle.command.specs.declared.verb.Verb.{Verb}
 use Rattle.command.specs.declared.verb.Verb.TheVariants.{Grid, Map, Table, Tape, Out, In, Cnot, Words, Serves, Allowance}
 use Rattle.command.specs.Commands.{Part, plain, numeral, spelling, Held}
@@ -38,7 +38,7 @@ filled two_numbers n = numeral n.0 ∷ numeral n.1 ∷ []
 
 -- these words say the filling
 abbrev pub Fills : (s : Shape) → List (List ℕ) → Filling s → Type 0
-Fills s ws x = All Held (filled s x) × (ws ≡ map spelling (filled s x))
+Fills s ws x = AllByRecursion Held (filled s x) × (ws ≡ map spelling (filled s x))
 
 -- they say none
 abbrev pub Unfilled : Shape → List (List ℕ) → Type 0

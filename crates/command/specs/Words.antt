@@ -1,6 +1,6 @@
 -- The words of a line: its longest runs of bytes that are no blank, up to the comment.
 use Rattle.std.specs.Prelude.{◌≡◌, ℕ, ◌<◌, ◌≤◌, Bool, true, false, cond, not, ◌||◌, List, [], ◌∷◌, ◌++◌, length, take, ◌==◌, slice_index}
-use Rattle.std.specs.List.{AllByRecursion as All}
+use Rattle.std.specs.List.{AllByRecursion}
 
 -- space, tab and CR
 abbrev pub blank : ℕ → Bool
@@ -32,7 +32,7 @@ words line = uncommented (runs [] line)
 -- the first n bytes are all blanks, or all none, and the next is not so
 pub record Front (blanks : Bool) (line : List ℕ) (n : ℕ) : Type 0 where
   pub within : n ≤ length line
-  pub all : All (λ b. blank b ≡ blanks) (take n line)
+  pub all : AllByRecursion (λ b. blank b ≡ blanks) (take n line)
   pub stops : n < length line → blank (slice_index line n) ≡ not blanks
 
 -- where a word has ended: at a blank or at the end of the line

@@ -1,6 +1,6 @@
 // The names of the commands, and what is said of a line that is none.
 ghost use Rattle.std.specs.Prelude.{◌≡◌, ◌++◌, Some, codes, MatchOption, ◌≢◌};
-ghost use Rattle.std.specs.List.{AllByRecursion as All};
+ghost use Rattle.std.specs.List.{AllByRecursion};
 ghost use Rattle.command.specs.Verbs.{name_of, usage_of, wanted};
 
 use std::fmt;
@@ -73,7 +73,7 @@ impl Verb {
 
 // The first of some verbs that a word names, if it names one.
 fn named_among(verbs: &[Verb], word: &[u8]) -> Option<Verb>
-    ensures { MatchOption result (All (λ v. word.now ≢ name_of v) verbs.now) (λ v. word.now ≡ name_of v) }
+    ensures { MatchOption result (AllByRecursion (λ v. word.now ≢ name_of v) verbs.now) (λ v. word.now ≡ name_of v) }
 {
     for verb in verbs {
         if word == verb.name() {

@@ -1,16 +1,17 @@
 // The console: a script from standard input, a command a line, rehearsed on a simulated chip.
 // A command's reading, doing and answer are the libraries'; here is only what reaches outside.
 #![tactic(auto)]
+
 use command::{Command, read};
 use simulation::obey::obey;
 use simulation::setup::Setup;
-use std::io::{BufRead, BufReader};
+use std::io::BufRead;
 use std::{fs, io, str};
 
 fn main(rt: HostRuntime) -> io::Result<()> {
     let mut setup = Setup::new();
     let mut number: usize = 0;
-    for line in BufReader::new(rt.alloc(), rt.stdin())?.split(rt.alloc(), b'\n') {
+    for line in rt.reader().split(rt.alloc(), b'\n') {
         number = number.saturating_add(1);
         answer(&rt, &mut setup, number, line?.as_slice())?;
     }

@@ -14,8 +14,8 @@ fn check_sizes(
     couplers: usize,
 ) -> Result<(), Fail> {
     let chip = GridChip::new(rows, columns)?;
-    assert_eq!(rt; chip.width(), places);
-    assert_eq!(rt; chip.couplers(), couplers);
+    assert_eq!(rt; chip.width(), places, "{rows}; {columns}");
+    assert_eq!(rt; chip.couplers(), couplers, "{rows}; {columns}");
     Ok(())
 }
 
@@ -28,9 +28,7 @@ fn sizes_at_the_limits_are_taken(rt: HostRuntime) -> Result<(), Fail> {
         (8, 8, 64, 112),
     ];
     for (rows, columns, places, couplers) in cases {
-        check_sizes(&rt, rows, columns, places, couplers)
-            .note(rows)
-            .note(columns)?;
+        check_sizes(&rt, rows, columns, places, couplers)?;
     }
     Ok(())
 }
@@ -53,13 +51,7 @@ fn sizes_past_the_limits_are_refused(rt: HostRuntime) {
     ];
     for (rows, columns) in cases {
         let fault = GridChip::new(rows, columns).err();
-        assert_eq!(rt;
-            fault,
-            Some(ChipFault::SizeOffLimits),
-            "{}; {}",
-            rows,
-            columns
-        );
+        assert_eq!(rt; fault, Some(ChipFault::SizeOffLimits), "{rows}; {columns}");
     }
 }
 
@@ -98,9 +90,7 @@ fn the_coupler_past_the_last_is_refused(rt: HostRuntime) -> Result<(), Fail> {
         assert_eq!(rt;
             chip.ends(chip.couplers()),
             Err(ChipFault::NoSuchCoupler),
-            "{}; {}",
-            rows,
-            columns
+            "{rows}; {columns}"
         );
         assert_eq!(rt; chip.ends(usize::MAX), Err(ChipFault::NoSuchCoupler));
     }
@@ -118,7 +108,7 @@ fn neighbours_are_joined_in_either_order_and_no_others(rt: HostRuntime) -> Resul
         (2, 0, 2),
         (3, 1, 3),
     ] {
-        assert_eq!(rt; chip.joins(a, b), Some(k), "{}; {}", a, b);
+        assert_eq!(rt; chip.joins(a, b), Some(k), "{a}; {b}");
     }
     for (a, b) in [
         (0, 3),
@@ -129,7 +119,7 @@ fn neighbours_are_joined_in_either_order_and_no_others(rt: HostRuntime) -> Resul
         (4, 4),
         (usize::MAX, 0),
     ] {
-        assert_eq!(rt; chip.joins(a, b), None, "{}; {}", a, b);
+        assert_eq!(rt; chip.joins(a, b), None, "{a}; {b}");
     }
     Ok(())
 }

@@ -1,5 +1,6 @@
 // Examples at the edges of chips, machines and play.
 #![tactic(auto)]
+
 #[cfg(test)]
 mod grids;
 #[cfg(test)]

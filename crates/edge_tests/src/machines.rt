@@ -6,95 +6,100 @@ use machine::fault::MachineFault;
 use std::process::Abort;
 use std::test::Fail;
 
-// Checks that a gate is refused, and why, and that no word and no allowance is changed.
+// Checks that a gate is refused on a machine of some kind, and why, and that no word and no allowance is changed.
 fn check_refused<M: Machine>(
     rt: &impl Abort,
     machine: &mut M,
     c: usize,
     t: usize,
     fault: MachineFault,
+    kind: &str,
 ) {
     let before = (machine.word(0), machine.word(1), machine.allowance());
-    assert_eq!(rt; machine.cnot(c, t), Err(fault), "{}; {}", c, t);
+    assert_eq!(rt; machine.cnot(c, t), Err(fault), "{c}; {t}; {kind}");
     assert_eq!(rt;
         (machine.word(0), machine.word(1), machine.allowance()),
-        before
+        before,
+        "{kind}"
     );
 }
 
 // A gate adds the control's word into the target's, and the same gate again takes it away.
-fn check_gates<M: Machine>(rt: &impl Abort, machine: &mut M) -> Result<(), Fail> {
-    check_words(rt, machine, &[1, 2]);
-    machine.cnot(0, 1)?;
-    check_words(rt, machine, &[1, 3]);
-    machine.cnot(0, 1)?;
-    check_words(rt, machine, &[1, 2]);
-    machine.cnot(1, 0)?;
-    check_words(rt, machine, &[3, 2]);
-    Ok(())
+fn check_gates<M: Machine>(rt: &impl Abort, machine: &mut M, kind: &str) {
+    check_words(rt, machine, &[1, 2], kind);
+    assert_eq!(rt; machine.cnot(0, 1), Ok(()), "{kind}");
+    check_words(rt, machine, &[1, 3], kind);
+    assert_eq!(rt; machine.cnot(0, 1), Ok(()), "{kind}");
+    check_words(rt, machine, &[1, 2], kind);
+    assert_eq!(rt; machine.cnot(1, 0), Ok(()), "{kind}");
+    check_words(rt, machine, &[3, 2], kind);
 }
 
 #[test]
 fn a_gate_adds_a_word_and_twice_gives_it_back(rt: HostRuntime) -> Result<(), Fail> {
-    check_gates(&rt, &mut table(2)?).note("table")?;
-    check_gates(&rt, &mut tape(rt.alloc(), 2, 3)?).note("tape")
+    check_gates(&rt, &mut table(2)?, "table");
+    check_gates(&rt, &mut tape(rt.alloc(), 2, 3)?, "tape");
+    Ok(())
 }
 
 // Places past the last have no word and no gate; a place is not joined to itself.
-fn check_places<M: Machine>(rt: &impl Abort, machine: &mut M) -> Result<(), Fail> {
-    assert_eq!(rt; machine.word(2), Err(MachineFault::PlaceOutOfRange));
+fn check_places<M: Machine>(rt: &impl Abort, machine: &mut M, kind: &str) {
+    assert_eq!(rt;
+        machine.word(2),
+        Err(MachineFault::PlaceOutOfRange),
+        "{kind}"
+    );
     assert_eq!(rt;
         machine.word(usize::MAX),
-        Err(MachineFault::PlaceOutOfRange)
+        Err(MachineFault::PlaceOutOfRange),
+        "{kind}"
     );
     for (c, t) in [(2, 0), (0, 2), (2, 2), (usize::MAX, 0), (0, usize::MAX)] {
-        check_refused(rt, machine, c, t, MachineFault::PlaceOutOfRange);
+        check_refused(rt, machine, c, t, MachineFault::PlaceOutOfRange, kind);
     }
     for c in [0, 1] {
-        check_refused(rt, machine, c, c, MachineFault::NotCoupled);
+        check_refused(rt, machine, c, c, MachineFault::NotCoupled, kind);
     }
-    Ok(())
 }
 
 #[test]
 fn places_past_the_last_and_equal_places_are_refused(rt: HostRuntime) -> Result<(), Fail> {
-    check_places(&rt, &mut table(2)?).note("table")?;
-    check_places(&rt, &mut tape(rt.alloc(), 2, 3)?).note("tape")
+    check_places(&rt, &mut table(2)?, "table");
+    check_places(&rt, &mut tape(rt.alloc(), 2, 3)?, "tape");
+    Ok(())
 }
 
 // A coupler out of service joins nothing until it is put back; one past the last is refused.
-fn check_service<M: Machine>(rt: &impl Abort, machine: &mut M) -> Result<(), Fail> {
-    assert_eq!(rt; machine.serves(0), Ok(true));
-    machine.set(0, false)?;
-    assert_eq!(rt; machine.serves(0), Ok(false));
-    check_refused(rt, machine, 0, 1, MachineFault::NotCoupled);
-    check_refused(rt, machine, 1, 0, MachineFault::NotCoupled);
-    assert_eq!(rt; machine.joins(0, 1), Some(0));
+fn check_service<M: Machine>(rt: &impl Abort, machine: &mut M, kind: &str) {
+    assert_eq!(rt; machine.serves(0), Ok(true), "{kind}");
+    assert_eq!(rt; machine.set(0, false), Ok(()), "{kind}");
+    assert_eq!(rt; machine.serves(0), Ok(false), "{kind}");
+    check_refused(rt, machine, 0, 1, MachineFault::NotCoupled, kind);
+    check_refused(rt, machine, 1, 0, MachineFault::NotCoupled, kind);
+    assert_eq!(rt; machine.joins(0, 1), Some(0), "{kind}");
     for k in [1, 255, 256, usize::MAX] {
         assert_eq!(rt;
             machine.set(k, true),
             Err(MachineFault::NoSuchCoupler),
-            "{}",
-            k
+            "{k}; {kind}"
         );
         assert_eq!(rt;
             machine.serves(k),
             Err(MachineFault::NoSuchCoupler),
-            "{}",
-            k
+            "{k}; {kind}"
         );
     }
-    assert_eq!(rt; machine.serves(0), Ok(false));
-    machine.set(0, true)?;
-    machine.cnot(0, 1)?;
-    check_words(rt, machine, &[1, 3]);
-    Ok(())
+    assert_eq!(rt; machine.serves(0), Ok(false), "{kind}");
+    assert_eq!(rt; machine.set(0, true), Ok(()), "{kind}");
+    assert_eq!(rt; machine.cnot(0, 1), Ok(()), "{kind}");
+    check_words(rt, machine, &[1, 3], kind);
 }
 
 #[test]
 fn a_coupler_out_of_service_joins_nothing(rt: HostRuntime) -> Result<(), Fail> {
-    check_service(&rt, &mut table(2)?).note("table")?;
-    check_service(&rt, &mut tape(rt.alloc(), 2, 3)?).note("tape")
+    check_service(&rt, &mut table(2)?, "table");
+    check_service(&rt, &mut tape(rt.alloc(), 2, 3)?, "tape");
+    Ok(())
 }
 
 // With nothing left, places are checked first, then the coupler, then its service, then the allowance.
@@ -102,13 +107,27 @@ fn a_coupler_out_of_service_joins_nothing(rt: HostRuntime) -> Result<(), Fail> {
 fn checks_come_in_their_order(rt: HostRuntime) -> Result<(), Fail> {
     let mut machine = tape(rt.alloc(), 2, 0)?;
     machine.set(0, false)?;
-    check_refused(&rt, &mut machine, 2, 2, MachineFault::PlaceOutOfRange);
-    check_refused(&rt, &mut machine, 0, 2, MachineFault::PlaceOutOfRange);
-    check_refused(&rt, &mut machine, 0, 0, MachineFault::NotCoupled);
-    check_refused(&rt, &mut machine, 0, 1, MachineFault::NotCoupled);
+    check_refused(
+        &rt,
+        &mut machine,
+        2,
+        2,
+        MachineFault::PlaceOutOfRange,
+        "tape",
+    );
+    check_refused(
+        &rt,
+        &mut machine,
+        0,
+        2,
+        MachineFault::PlaceOutOfRange,
+        "tape",
+    );
+    check_refused(&rt, &mut machine, 0, 0, MachineFault::NotCoupled, "tape");
+    check_refused(&rt, &mut machine, 0, 1, MachineFault::NotCoupled, "tape");
     machine.set(0, true)?;
-    check_refused(&rt, &mut machine, 1, 1, MachineFault::NotCoupled);
-    check_refused(&rt, &mut machine, 0, 1, SPENT);
+    check_refused(&rt, &mut machine, 1, 1, MachineFault::NotCoupled, "tape");
+    check_refused(&rt, &mut machine, 0, 1, SPENT, "tape");
     Ok(())
 }
 
@@ -144,8 +163,8 @@ fn a_table_takes_a_million_gates_and_no_more(rt: HostRuntime) -> Result<(), Fail
         machine.cnot(0, 1)?;
     }
     check_fits(&rt, &machine, 0, 1);
-    check_refused(&rt, &mut machine, 0, 1, SPENT);
-    check_words(&rt, &machine, &[1, 2]);
+    check_refused(&rt, &mut machine, 0, 1, SPENT, "table");
+    check_words(&rt, &machine, &[1, 2], "table");
     Ok(())
 }
 

@@ -6,10 +6,9 @@ use std::alloc::{AllocError, Global};
 use std::process::Abort;
 use std::test::Fail;
 
-// Checks that a file is refused, and why.
-fn check_refused(rt: &impl Abort, heap: Global, file: &[u8], fault: ChipFault) -> Result<(), Fail> {
-    assert_eq!(rt; MappedChip::read(heap, file).err(), Some(fault));
-    Ok(())
+// Checks that a file with something wrong in it is refused, and why.
+fn check_refused(rt: &impl Abort, heap: Global, file: &[u8], fault: ChipFault, wrong: &str) {
+    assert_eq!(rt; MappedChip::read(heap, file).err(), Some(fault), "{wrong}");
 }
 
 #[test]
@@ -35,7 +34,7 @@ fn places_are_joined_in_either_order(rt: HostRuntime) -> Result<(), Fail> {
         (1, 1, None),
         (1, 3, None),
     ] {
-        assert_eq!(rt; chip.joins(a, b), k, "{}; {}", a, b);
+        assert_eq!(rt; chip.joins(a, b), k, "{a}; {b}");
     }
     Ok(())
 }
@@ -50,40 +49,82 @@ fn one_place_without_couplers_is_a_chip(rt: HostRuntime) -> Result<(), Fail> {
 }
 
 #[test]
-fn a_bad_coupler_is_named(rt: HostRuntime) -> Result<(), Fail> {
+fn a_bad_coupler_is_named(rt: HostRuntime) {
     let heap = rt.alloc();
     let first = ChipFault::BadCoupler { coupler: 0 };
     let second = ChipFault::BadCoupler { coupler: 1 };
-    check_refused(&rt, heap, &[3, 2, 0, 0, 1, 1, 0], second).note("the first, turned round")?;
-    check_refused(&rt, heap, &[3, 2, 0, 0, 0, 1, 1], second).note("the first again")?;
-    check_refused(&rt, heap, &[3, 2, 0, 0, 3, 1, 2], second).note("a left end past the places")?;
-    check_refused(&rt, heap, &[3, 2, 0, 0, 1, 1, 3], second).note("a right end past the places")?;
-    check_refused(&rt, heap, &[3, 1, 0, 1, 1], first).note("equal ends")?;
-    check_refused(&rt, heap, &[3, 2, 0, 2, 1, 2, 1], first).note("the first of two that are bad")?;
-    check_refused(&rt, heap, &[1, 1, 0, 0, 1], first).note("one place")
+    check_refused(
+        &rt,
+        heap,
+        &[3, 2, 0, 0, 1, 1, 0],
+        second,
+        "the first, turned round",
+    );
+    check_refused(&rt, heap, &[3, 2, 0, 0, 0, 1, 1], second, "the first again");
+    check_refused(
+        &rt,
+        heap,
+        &[3, 2, 0, 0, 3, 1, 2],
+        second,
+        "a left end past the places",
+    );
+    check_refused(
+        &rt,
+        heap,
+        &[3, 2, 0, 0, 1, 1, 3],
+        second,
+        "a right end past the places",
+    );
+    check_refused(&rt, heap, &[3, 1, 0, 1, 1], first, "equal ends");
+    check_refused(
+        &rt,
+        heap,
+        &[3, 2, 0, 2, 1, 2, 1],
+        first,
+        "the first of two that are bad",
+    );
+    check_refused(&rt, heap, &[1, 1, 0, 0, 1], first, "one place");
 }
 
 #[test]
-fn a_wrong_length_is_refused(rt: HostRuntime) -> Result<(), Fail> {
+fn a_wrong_length_is_refused(rt: HostRuntime) {
     let heap = rt.alloc();
     let fault = ChipFault::WrongLength;
-    check_refused(&rt, heap, &[], fault).note("no byte")?;
-    check_refused(&rt, heap, &[0], fault).note("one byte")?;
-    check_refused(&rt, heap, &[65, 255], fault).note("two bytes")?;
-    check_refused(&rt, heap, &[3, 2, 0, 0, 1, 1], fault).note("one byte short")?;
-    check_refused(&rt, heap, &[3, 2, 0, 0, 1, 1, 2, 0], fault).note("one byte long")?;
-    check_refused(&rt, heap, &[3, 1, 0, 1, 1, 1], fault).note("before a bad coupler")
+    check_refused(&rt, heap, &[], fault, "no byte");
+    check_refused(&rt, heap, &[0], fault, "one byte");
+    check_refused(&rt, heap, &[65, 255], fault, "two bytes");
+    check_refused(&rt, heap, &[3, 2, 0, 0, 1, 1], fault, "one byte short");
+    check_refused(&rt, heap, &[3, 2, 0, 0, 1, 1, 2, 0], fault, "one byte long");
+    check_refused(
+        &rt,
+        heap,
+        &[3, 1, 0, 1, 1, 1],
+        fault,
+        "before a bad coupler",
+    );
 }
 
 #[test]
-fn a_size_is_refused_before_a_length(rt: HostRuntime) -> Result<(), Fail> {
+fn a_size_is_refused_before_a_length(rt: HostRuntime) {
     let heap = rt.alloc();
     let fault = ChipFault::SizeOffLimits;
-    check_refused(&rt, heap, &[0, 0, 0], fault).note("no place")?;
-    check_refused(&rt, heap, &[65, 0, 0], fault).note("65 places")?;
-    check_refused(&rt, heap, &[3, 1, 1], fault).note("257 couplers, none of them there")?;
-    check_refused(&rt, heap, &[0, 1, 0], fault).note("no place, and a coupler short")?;
-    check_refused(&rt, heap, &[64, 255, 255, 0], fault).note("65535 couplers")
+    check_refused(&rt, heap, &[0, 0, 0], fault, "no place");
+    check_refused(&rt, heap, &[65, 0, 0], fault, "65 places");
+    check_refused(
+        &rt,
+        heap,
+        &[3, 1, 1],
+        fault,
+        "257 couplers, none of them there",
+    );
+    check_refused(
+        &rt,
+        heap,
+        &[0, 1, 0],
+        fault,
+        "no place, and a coupler short",
+    );
+    check_refused(&rt, heap, &[64, 255, 255, 0], fault, "65535 couplers");
 }
 
 // A file of 64 places and 256 couplers, the last one given: any other coupler k joins place k % 64
@@ -123,7 +164,7 @@ fn the_last_coupler_of_the_largest_map_is_checked(rt: HostRuntime) -> Result<(),
     let fault = ChipFault::BadCoupler { coupler: 255 };
     for last in [(1, 0), (0, 1), (63, 63), (63, 64)] {
         let file = full_file(heap, last)?;
-        check_refused(&rt, heap, file.as_slice(), fault)?;
+        check_refused(&rt, heap, file.as_slice(), fault, "the last coupler");
     }
     Ok(())
 }
@@ -136,7 +177,7 @@ fn a_second_chip_of_the_same_layout_is_alike(rt: HostRuntime) -> Result<(), Fail
     assert_eq!(rt; second.width(), first.width());
     assert_eq!(rt; second.couplers(), first.couplers());
     for k in 0..257 {
-        assert_eq!(rt; second.ends(k), first.ends(k), "{}", k);
+        assert_eq!(rt; second.ends(k), first.ends(k), "{k}");
     }
     Ok(())
 }

@@ -13,7 +13,7 @@ fn each_fault_of_a_chip_has_its_number(rt: HostRuntime) {
         (ChipFault::NoMemory, 0),
     ];
     for (fault, number) in cases {
-        assert_eq!(rt; fault.number(), number, "{}", fault);
+        assert_eq!(rt; fault.number(), number, "{fault}");
     }
 }
 
@@ -28,7 +28,7 @@ fn each_fault_of_a_machine_has_its_number(rt: HostRuntime) {
         (MachineFault::NoMemory, 0),
     ];
     for (fault, number) in cases {
-        assert_eq!(rt; fault.number(), number, "{}", fault);
+        assert_eq!(rt; fault.number(), number, "{fault}");
     }
 }
 

@@ -35,9 +35,9 @@ pub(crate) fn tape_on(
     Ok(made.ok().ok_or("no machine")?)
 }
 
-// Checks the words at place 0 and the places after it.
-pub(crate) fn check_words<M: Machine>(rt: &impl Abort, machine: &M, words: &[u64]) {
+// Checks the words at place 0 and the places after it, on a machine of some kind.
+pub(crate) fn check_words<M: Machine>(rt: &impl Abort, machine: &M, words: &[u64], kind: &str) {
     for (q, word) in words.iter().enumerate() {
-        assert_eq!(rt; machine.word(q), Ok(*word), "{}", q);
+        assert_eq!(rt; machine.word(q), Ok(*word), "{q}; {kind}");
     }
 }

@@ -16,7 +16,7 @@ fn a_tape_of_no_entries_takes_no_gate(rt: HostRuntime) -> Result<(), Fail> {
     assert_eq!(rt; machine.allowance(), 0);
     assert_eq!(rt; machine.cnot(0, 1), Err(SPENT));
     assert!(rt; machine.entries().is_empty());
-    check_words(&rt, &machine, &[1, 2]);
+    check_words(&rt, &machine, &[1, 2], "tape");
     Ok(())
 }
 
@@ -28,7 +28,7 @@ fn a_tape_of_two_entries_takes_two_gates(rt: HostRuntime) -> Result<(), Fail> {
     assert_eq!(rt; machine.cnot(0, 1), Err(SPENT));
     assert_eq!(rt; machine.allowance(), 0);
     assert_eq!(rt; machine.entries(), &[1, 64][..]);
-    check_words(&rt, &machine, &[2, 3]);
+    check_words(&rt, &machine, &[2, 3], "tape");
     Ok(())
 }
 
@@ -42,7 +42,7 @@ fn the_longest_tape_can_be_filled(rt: HostRuntime) -> Result<(), Fail> {
     assert_eq!(rt; machine.entries().len(), 8192);
     assert_eq!(rt; machine.cnot(0, 1), Err(SPENT));
     // Three such pairs of gates give the fresh words back, and 4096 is one above a multiple of three.
-    check_words(&rt, &machine, &[2, 3]);
+    check_words(&rt, &machine, &[2, 3], "tape");
     Ok(())
 }
 
@@ -82,16 +82,11 @@ fn weave<M: Machine>(machine: &mut M) -> Result<(), Fail> {
 }
 
 // Checks that two machines of 64 places have the same words.
-fn check_same_words<L: Machine, R: Machine>(
-    rt: &impl Abort,
-    left: &L,
-    right: &R,
-) -> Result<(), Fail> {
+fn check_same_words<L: Machine, R: Machine>(rt: &impl Abort, left: &L, right: &R, when: &str) {
     for q in 0..64 {
-        assert_eq!(rt; left.word(q), right.word(q), "{}", q);
-        assert!(rt; left.word(q).is_ok(), "{}", q);
+        assert_eq!(rt; left.word(q), right.word(q), "{q}; {when}");
+        assert!(rt; left.word(q).is_ok(), "{q}; {when}");
     }
-    Ok(())
 }
 
 #[test]
@@ -100,12 +95,12 @@ fn a_tape_gives_the_words_of_a_table(rt: HostRuntime) -> Result<(), Fail> {
     let mut tape = tape_on(rt.alloc(), chip, 224)?;
     let mut table = TableMachine::new(chip);
     let mut player = TableMachine::new(chip);
-    check_same_words(&rt, &tape, &table).note("fresh")?;
+    check_same_words(&rt, &tape, &table, "fresh");
     weave(&mut tape)?;
     weave(&mut table)?;
-    check_same_words(&rt, &tape, &table).note("gate by gate")?;
+    check_same_words(&rt, &tape, &table, "gate by gate");
     play(&mut player, tape.entries())?;
-    check_same_words(&rt, &tape, &player).note("played from the tape")?;
+    check_same_words(&rt, &tape, &player, "played from the tape");
     assert_ne!(rt; tape.word(63), Ok(1 << 63));
     Ok(())
 }

@@ -8,7 +8,7 @@ use std::fmt;
 pub(crate) fn add_number(line: &mut String, number: u64) -> fmt::Result
     ensures { OnOk result (string_bytes line.new ≡ string_bytes line.old ++ spaced_number number) }
 {
-    write!(line, " {number}")
+    Ok(write!(line, " {number}")?)
 }
 
 pub(crate) fn add_words(line: &mut String, words: &[u64]) -> fmt::Result
@@ -35,7 +35,7 @@ fn add_gate(line: &mut String, entry: u16) -> fmt::Result
 {
     let control = entry / 64;
     let target = entry % 64;
-    write!(line, " {control}>{target}")
+    Ok(write!(line, " {control}>{target}")?)
 }
 
 pub(crate) fn add_gates(line: &mut String, entries: &[u16]) -> fmt::Result

@@ -1,5 +1,5 @@
 -- The text of a reply.
-use Rattle.std.specs.Prelude.{ℕ, List, [], ◌∷◌, ◌++◌, string_bytes, codes, decimal}
+use Rattle.std.specs.Prelude.{ℕ, List, [], ◌++◌, string_bytes, codes, decimal}
 use Rattle.replies.specs.declared.reply.Reply.{Reply}
 use Rattle.replies.specs.declared.reply.Reply.TheVariants.{Nothing, Chip, Table, Tape, Out, In, Cnot, Serves, ServesNot, Allowance, Cx, Swap, Line}
 

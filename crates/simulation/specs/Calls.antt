@@ -1,22 +1,21 @@
 -- What each command does: whether it is refused, what it answers, and what it leaves.
-use Rattle.std.specs.Prelude.{◌≡◌, ℕ, ◌-◌, Bool, true, false, cond, ◌⊎◌, List, [], length, Some, None, Ok, Err, string_bytes, Option, Result, String, MatchResult}
+use Rattle.std.specs.Prelude.{◌≡◌, ℕ, Bool, false, ◌⊎◌, length, Some, None, Err, string_bytes, Option, Result, String, MatchResult}
 use Rattle.std.specs.declared.alloc.Global.{Global}
 use Rattle.std.specs.Option.{option_map}
 use Rattle.chip.specs.Answers.{answered, kept}
-use Rattle.chip.specs.declared.fault.ChipFault.{ChipFault}
 use Rattle.chip.specs.declared.fault.ChipFault.TheVariants.{NoMemory as ChipMemory}
 use Rattle.chip.specs.Layout.{Layout}
 use Rattle.machine.specs.declared.fault.MachineFault.{MachineFault}
 use Rattle.machine.specs.declared.fault.MachineFault.TheVariants.{NoMemory as MachineMemory}
-use Rattle.machine.specs.Meaning.{Meaning, new, switched, played}
-use Rattle.machine.specs.Calls.{coupler_fault, cnot_fault, serves_at}
+use Rattle.machine.specs.Meaning.{Meaning, new}
+use Rattle.machine.specs.Calls.{serves_at}
 use Rattle.simulation.specs.declared.refusal.Refusal.{Refusal}
 use Rattle.simulation.specs.declared.refusal.Refusal.TheVariants.{NoChip, NoMachine, Chip, Machine, NoMemory}
 use Rattle.tape.specs.Tape.{tape_fault}
 use Rattle.device.specs.declared.machines.AnyMachine.{AnyMachine}
 use Rattle.device.specs.Machines.{chip_layout, any_meaning}
 use Rattle.simulation.specs.Replies.{words_text}
-use Rattle.simulation.specs.Statuses.{Status, MachineStatus, with_chip, with_machine}
+use Rattle.simulation.specs.Statuses.{Status, MachineStatus, with_machine}
 
 -- the answer, and the status before and after: a refusal changes nothing
 pub record Does {A : Type 0} (s : Status) (fault : Option Refusal) (answer : A) (after : Status) (r : Result A Refusal) (t : Status) : Type 0 where

@@ -1,8 +1,8 @@
 -- What a script has set up, by its meaning.
-use Rattle.std.specs.Prelude.{ℕ, Bool, List, [], Some, None, Option}
+use Rattle.std.specs.Prelude.{Some, None, Option}
 use Rattle.std.specs.Option.{option_map}
 use Rattle.chip.specs.Layout.{Layout}
-use Rattle.machine.specs.Meaning.{Meaning, switched, played}
+use Rattle.machine.specs.Meaning.{Meaning}
 use Rattle.device.specs.Chips.{any_layout}
 use Rattle.device.specs.Machines.{chip_layout, any_meaning}
 use Rattle.device.specs.declared.machines.AnyMachine.{AnyMachine}

@@ -33,5 +33,5 @@ fn word_at<M: Machine>(machine: &M, q: usize) -> u64
 fn add_word(line: &mut String, word: u64) -> fmt::Result
     ensures { OnOk result (string_bytes line.new ≡ string_bytes line.old ++ (codes " " ++ decimal word)) }
 {
-    write!(line, " {word}")
+    Ok(write!(line, " {word}")?)
 }

@@ -1,13 +1,8 @@
-use Rattle.std.proofs.Common.{sym, refl, subst}
+use Rattle.std.proofs.Common.{refl}
 use Rattle.command.specs.declared.Command.TheVariants.{Table, Words, Allowance}
-use Rattle.command.specs.Shapes.{shape, Unfilled}
 use Rattle.command.specs.Words.{words}
 use Rattle.command.proofs.Spelling.{bare_tells}
 use Rattle.command.proofs.command_of.Goals as goal
-
-pub returns-in_err-one_word : goal.returns-in_err-one_word
-returns-in_err-one_word c =
-    rw c.from_residual-in_err-one_word.ensures (subst (λ v. Unfilled (shape v) (words c.args.rest.now)) (sym c.in-Map.is) c.in_err-one_word.ensures)
 
 pub returns-in-Table : goal.returns-in-Table
 returns-in-Table c = bare_tells Table (words c.args.rest.now) c.alone.result c.in-Table.is refl refl c.alone.ensures

@@ -1,5 +1,5 @@
 use Rattle.std.proofs.Common.{◌≡◌, sym, ◌∙◌, subst}
-use Rattle.std.specs.List.{AllByRecursion as All}
+use Rattle.std.specs.List.{AllByRecursion}
 use Rattle.std.proofs.lemmas.List.{take_all}
 use Rattle.std.proofs.ByRecursion.{All-more}
 use Rattle.std.proofs.lemmas.Slice.Eq.{slice_eq-Decides}
@@ -18,4 +18,4 @@ loop-verb-preserved c =
 
 pub returns : goal.returns
 returns c =
-    subst (All (λ v. c.args.word.now ≡ name_of v → ⊥)) (take_all c.loop-verb.verb-index c.args.verbs.now c.loop-verb-test.false) c.loop-verb.invariant
+    subst (AllByRecursion (λ v. c.args.word.now ≡ name_of v → ⊥)) (take_all c.loop-verb.verb-index c.args.verbs.now c.loop-verb-test.false) c.loop-verb.invariant

@@ -1,5 +1,5 @@
 use Rattle.std.proofs.Common.{◌≡◌, length, take, sym, ◌∙◌, subst, arith}
-use Rattle.std.specs.List.{AllByRecursion as All}
+use Rattle.std.specs.List.{AllByRecursion}
 use Rattle.std.proofs.lemmas.List.{take_all}
 use Rattle.std.proofs.ByRecursion.{All-more}
 use Rattle.command.specs.Words.{blank}
@@ -17,6 +17,6 @@ returns c =
     let e : take c.loop-i.i line ≡ take (length line) line = take_all c.loop-i.i line c.loop-i-test.false ∙ sym (take_all (length line) line (omega arith)) in
     record {
       within = omega arith;
-      all = subst (All (λ b. blank b ≡ c.args.blanks)) e c.loop-i.invariant;
+      all = subst (AllByRecursion (λ b. blank b ≡ c.args.blanks)) e c.loop-i.invariant;
       stops = λ h. absurd (omega arith);
     }

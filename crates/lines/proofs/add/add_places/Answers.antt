@@ -1,4 +1,4 @@
-use Rattle.std.proofs.Common.{◌≡◌, ℕ, ◌<◌, ◌≤◌, List, ◌++◌, length, get_or, take, string_bytes, ap, ◌∙◌, arith, take_all}
+use Rattle.std.proofs.Common.{ℕ, ◌<◌, ◌≤◌, List, ◌++◌, length, get_or, string_bytes, ap, ◌∙◌, arith, take_all}
 use Rattle.lines.specs.Lines.{texts, spaced_number}
 use Rattle.lines.proofs.Texts.{texts_more}
 use Rattle.lines.proofs.add.add_places.Goals as goal

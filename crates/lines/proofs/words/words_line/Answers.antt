@@ -1,4 +1,4 @@
-use Rattle.std.proofs.Common.{◌≡◌, ℕ, ◌<◌, ◌≤◌, List, ◌++◌, length, take, codes, ap, ◌∙◌, arith, take_all}
+use Rattle.std.proofs.Common.{ℕ, ◌<◌, ◌≤◌, List, ◌++◌, length, take, codes, ap, ◌∙◌, arith, take_all}
 use Rattle.lines.specs.Lines.{spaced_number, words_text}
 use Rattle.lines.proofs.Texts.{texts_more}
 use Rattle.lines.proofs.words.words_line.Goals as goal

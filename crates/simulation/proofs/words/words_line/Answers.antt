@@ -1,4 +1,4 @@
-use Rattle.std.proofs.Common.{◌≡◌, ℕ, ◌<◌, ◌≤◌, List, ◌++◌, length, take, codes, decimal, ap, ◌∙◌, arith, take_all}
+use Rattle.std.proofs.Common.{ℕ, ◌<◌, ◌≤◌, List, ◌++◌, length, codes, decimal, ap, ◌∙◌, arith, take_all}
 use Rattle.simulation.specs.Replies.{words_text}
 use Rattle.simulation.proofs.Texts.{words_more}
 use Rattle.simulation.proofs.words.words_line.Goals as goal
