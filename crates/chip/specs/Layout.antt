@@ -1,5 +1,5 @@
 -- Layouts: how many places a chip has, and which places its couplers join.
-use Rattle.std.specs.Prelude.{◌≡◌, ℕ, ◌<◌, ◌≤◌, Bool, false, ◌&&◌, ◌||◌, List, length, get_or, ◌==◌, ◌≢◌, slice_index_or}
+use Rattle.std.specs.Prelude.{◌≡◌, ℕ, ◌<◌, ◌≤◌, Bool, false, ◌&&◌, ◌||◌, List, length, ◌==◌, ◌≢◌, slice_index_or}
 
 pub record Layout : Type 0 where
   pub places : ℕ
@@ -14,8 +14,8 @@ pub record Sound (l : Layout) : Type 0 where
   pub some_place : 1 ≤ l.places
   pub at_most_64 : l.places ≤ 64
   pub at_most_256 : length l.couplers ≤ 256
-  pub left_below : (k : ℕ) → k < length l.couplers → (get_or l.couplers k (0, 0)).0 < l.places
-  pub right_below : (k : ℕ) → k < length l.couplers → (get_or l.couplers k (0, 0)).1 < l.places
-  pub differ : (k : ℕ) → k < length l.couplers → (get_or l.couplers k (0, 0)).0 ≢ (get_or l.couplers k (0, 0)).1
+  pub left_below : (k : ℕ) → k < length l.couplers → (slice_index_or l.couplers k (0, 0)).0 < l.places
+  pub right_below : (k : ℕ) → k < length l.couplers → (slice_index_or l.couplers k (0, 0)).1 < l.places
+  pub differ : (k : ℕ) → k < length l.couplers → (slice_index_or l.couplers k (0, 0)).0 ≢ (slice_index_or l.couplers k (0, 0)).1
   pub apart : (j k : ℕ) → j < k → k < length l.couplers
-      → touches (get_or l.couplers j (0, 0)).0 (get_or l.couplers j (0, 0)).1 (slice_index_or l.couplers k (0, 0)) ≡ false
+      → touches (slice_index_or l.couplers j (0, 0)).0 (slice_index_or l.couplers j (0, 0)).1 (slice_index_or l.couplers k (0, 0)) ≡ false

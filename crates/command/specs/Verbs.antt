@@ -1,4 +1,4 @@
--- The names of the commands, and their usageOf.
+-- The names of the commands, and their forms.
 use Rattle.std.specs.Prelude.{ℕ, List, codes}
 use Rattle.command.specs.declared.verb.Verb.{Verb}
 use Rattle.command.specs.declared.verb.Verb.TheVariants.{Grid, Map, Table, Tape, Out, In, Cnot, Words, Serves, Allowance}

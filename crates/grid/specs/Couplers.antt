@@ -93,7 +93,7 @@ right_once R C j k hj hk e =
 
 -- ---- sound
 
-module _ (R C : ℕ) (some-row : 1 ≤ R) (some-column : 1 ≤ C) (small : R * C ≤ 64) where
+module _ (R C : ℕ) (some_row : 1 ≤ R) (some_column : 1 ≤ C) (small : R * C ≤ 64) where
   ends_rise : (k : ℕ) → k < grid_couplers R C → (grid_ends R C k).0 < (grid_ends R C k).1
   ends_rise k h = by (goes R C k)
     where
@@ -106,11 +106,11 @@ module _ (R C : ℕ) (some-row : 1 ≤ R) (some-column : 1 ≤ C) (small : R * C
     where
       by : GoesRight R C k ⊎ GoesDown R C k → (grid_ends R C k).1 < R * C
       by (inl w) = omega (arith, right_inside R C k w.0)
-      by (inr w) = omega (arith, downward_more R C some-row)
+      by (inr w) = omega (arith, downward_more R C some_row)
 
   -- a step right is shorter than a step down, unless there is one column and none go right
   ends_once : (j k : ℕ) → j < k → k < grid_couplers R C → (grid_ends R C k).0 ≡ (grid_ends R C j).0 → (grid_ends R C k).1 ≢ (grid_ends R C j).1
-  ends_once j k less h same_left same-right = by (goes R C j) (goes R C k)
+  ends_once j k less h same_left same_right = by (goes R C j) (goes R C k)
     where
       by : GoesRight R C j ⊎ GoesDown R C j → GoesRight R C k ⊎ GoesDown R C k → ⊥
       by (inl v) (inl w) = let e = right_once R C j k v.0 w.0 (sym w.1 ∙ same_left ∙ v.1) in omega arith
@@ -120,7 +120,7 @@ module _ (R C : ℕ) (some-row : 1 ≤ R) (some-column : 1 ≤ C) (small : R * C
 
   pub grid_sound : Sound (grid_layout R C)
   grid_sound =
-      let size = mul-pos some-row some-column in
-      let right = rightward_more R C some-column in
-      let down = downward_more R C some-row in
+      let size = mul-pos some_row some_column in
+      let right = rightward_more R C some_column in
+      let down = downward_more R C some_row in
       formula_sound (R * C) (grid_couplers R C) (grid_ends R C) (omega arith) small (omega arith) ends_rise ends_inside ends_once

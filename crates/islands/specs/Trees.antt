@@ -1,5 +1,5 @@
 -- Trees on islands: the places in an order with the root first and each other place after its parent.
-use Rattle.std.specs.Prelude.{◌≡◌, ℕ, ◌<◌, ◌≢◌, List, length, slice_index, slice_index_or}
+use Rattle.std.specs.Prelude.{◌≡◌, ℕ, ◌<◌, ◌≢◌, List, length, slice_index}
 use Rattle.parity.specs.Sets.{bit}
 use Rattle.islands.specs.Graphs.{Reach}
 
@@ -12,7 +12,7 @@ pub record Child (adj : List ℕ) (live : ℕ) (order parent : List ℕ) (i u : 
 -- the first n of the order are the island of the root, each place once, and each but the root after its parent
 pub record TreeOrder (adj : List ℕ) (live root : ℕ) (order parent : List ℕ) (n : ℕ) : Type 0 where
   pub some : 0 < n
-  pub first : slice_index_or order 0 0 ≡ root
+  pub first : slice_index order 0 ≡ root
   pub children : (i : ℕ) → 0 < i → i < n → Child adj live order parent i (slice_index order i)
   pub once : (i j : ℕ) → i < n → j < n → slice_index order i ≡ slice_index order j → i ≡ j
   pub below : (i : ℕ) → i < n → slice_index order i < length adj

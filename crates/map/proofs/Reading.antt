@@ -57,11 +57,11 @@ module _ (file left right : List ℕ) (cut : Halved file left right) where
 
   -- sizes within the limits, and so only a coupler can be at fault
   pub fault_read : 1 ≤ map_places file → map_places file ≤ 64 → map_couplers file ≤ 256 → map_fault file ≡ bad_fault (first_bad (map_places file) (length left) (ends_in left right))
-  fault_read some few m-few =
+  fault_read some few m_few =
       let long = le-leb 3 (length file) cut.header in
       let a = le-leb 1 (map_places file) some in
       let b = le-leb (map_places file) 64 few in
-      let d = le-leb (map_couplers file) 256 m-few in
+      let d = le-leb (map_couplers file) 256 m_few in
       let e = eq-eqb (length file) (3 + 2 * map_couplers file) (whole_length file cut.header cut.whole) in
       rw (long, a, b, d, e) (ap bad_fault (sym (first_read (map_places file))))
 

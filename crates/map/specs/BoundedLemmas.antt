@@ -59,7 +59,7 @@ least_is p (suc n) k l t f = by (last_or_before k n l) (λ b. least_is p n k b t
         rw (before, here) (ap Some (sym e))
     by (inr b) earlier = rw (earlier b) refl
 
--- what leastBelow answers
+-- what `least_below` answers
 pub record Least (p : ℕ → Bool) (n k : ℕ) : Type 0 where
   pub below : k < n
   pub passes : p k ≡ true

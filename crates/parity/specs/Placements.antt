@@ -1,5 +1,5 @@
 -- Wires at places, and sets of wires as sets of places.
-use Rattle.std.specs.Prelude.{◌≡◌, ℕ, ◌^◌, ◌<◌, ◌↔◌, List, map, length, slice_index, slice_index_or}
+use Rattle.std.specs.Prelude.{◌≡◌, ℕ, ◌^◌, ◌<◌, ◌↔◌, List, map, length, slice_index}
 use Rattle.parity.specs.Sets.{bit, xor_over}
 
 -- a place of its own for each of n wires
@@ -17,8 +17,8 @@ pub record PlaceOf (n : ℕ) (at : List ℕ) (x q : ℕ) : Type 0 where
   pub wire : ℕ
   pub below : wire < n
   pub in_word : bit x wire ≡ 1
-  pub place : slice_index_or at wire 0 ≡ q
+  pub place : slice_index at wire ≡ q
 
--- under a placement `places-of` has those places and no others
+-- under a placement `wires_to_places` has those places and no others
 abbrev pub PlacesExactly : Type 0
 PlacesExactly = (n : ℕ) (at : List ℕ) (x q : ℕ) → Placement n at → (bit (wires_to_places at x) q ≡ 1) ↔ PlaceOf n at x q

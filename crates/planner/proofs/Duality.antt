@@ -152,14 +152,14 @@ length_traded xs a b = length-set (set xs a (get_or xs b 0)) b (get_or xs a 0) �
 pub traded_dual : (n : ℕ) (xs ys : List ℕ) (a b : ℕ) → Dual n xs ys → n ≤ length xs → n ≤ length ys → a < n → b < n → a ≢ b
     → Dual n (traded a b xs) (traded a b ys)
 traded_dual n xs ys a b d lx ly an bn ne =
-    let in-x : (w : ℕ) → get_or (traded a b xs) w 0 ≡ get_or xs (trader a b w).0 0 = λ w. traded_at xs a b w (trader a b w).0 (omega arith) (omega arith) (trader a b w).1 in
-    let in-y : (w : ℕ) → get_or (traded a b ys) w 0 ≡ get_or ys (trader a b w).0 0 = λ w. traded_at ys a b w (trader a b w).0 (omega arith) (omega arith) (trader a b w).1 in
+    let in_x : (w : ℕ) → get_or (traded a b xs) w 0 ≡ get_or xs (trader a b w).0 0 = λ w. traded_at xs a b w (trader a b w).0 (omega arith) (omega arith) (trader a b w).1 in
+    let in_y : (w : ℕ) → get_or (traded a b ys) w 0 ≡ get_or ys (trader a b w).0 0 = λ w. traded_at ys a b w (trader a b w).0 (omega arith) (omega arith) (trader a b w).1 in
     let low : (w : ℕ) → w < n → (trader a b w).0 < n = λ w h. trader_below n a b w (trader a b w).0 an bn h (trader a b w).1 in
     record {
-      words_below = λ w h. subst (λ (z : ℕ). z < 2 ^ n) (sym (in-x w)) (d.words_below (trader a b w).0 (low w h));
-      duals_below = λ w h. subst (λ (z : ℕ). z < 2 ^ n) (sym (in-y w)) (d.duals_below (trader a b w).0 (low w h));
-      own = λ w h. ap₂ dot (in-x w) (in-y w) ∙ d.own (trader a b w).0 (low w h);
-      other = λ w v t. ap₂ dot (in-x w) (in-y v)
+      words_below = λ w h. subst (λ (z : ℕ). z < 2 ^ n) (sym (in_x w)) (d.words_below (trader a b w).0 (low w h));
+      duals_below = λ w h. subst (λ (z : ℕ). z < 2 ^ n) (sym (in_y w)) (d.duals_below (trader a b w).0 (low w h));
+      own = λ w h. ap₂ dot (in_x w) (in_y w) ∙ d.own (trader a b w).0 (low w h);
+      other = λ w v t. ap₂ dot (in_x w) (in_y v)
           ∙ d.other (trader a b w).0 (trader a b v).0
           (low w t.0, low v t.1, λ e. t.2 (trader_same a b w v (trader a b w).0 (trader a b v).0 ne (trader a b w).1 (trader a b v).1 e));
     }

@@ -34,11 +34,11 @@ module _ (n : ℕ) (words at : List ℕ) (p : Placement n at) (low : (w : ℕ) �
 
   pub wanted_paired : (duals : List ℕ) → Paired n words duals → Paired n (map (wires_to_places at) words) (map (wires_to_places at) duals)
   wanted_paired duals d =
-      let dual-at : (w : ℕ) → get_or (map (wires_to_places at) duals) w 0 ≡ wires_to_places at (get_or duals w 0) =
+      let dual_at : (w : ℕ) → get_or (map (wires_to_places at) duals) w 0 ≡ wires_to_places at (get_or duals w 0) =
       λ w. get_d_map_zero (wires_to_places at) (xor_over_none (map (λ (q : ℕ). 2 ^ q) at)) duals w in
       record {
-        own = λ w h. ap₂ dot (wanted_at w) (dual-at w) ∙ pairing_carried n at p (get_or words w 0) (get_or duals w 0) (low w h) ∙ d.own w h;
-        other = λ w v hw hv ne. ap₂ dot (wanted_at w) (dual-at v) ∙ pairing_carried n at p (get_or words w 0) (get_or duals v 0) (low w hw) ∙ d.other w v hw hv ne;
+        own = λ w h. ap₂ dot (wanted_at w) (dual_at w) ∙ pairing_carried n at p (get_or words w 0) (get_or duals w 0) (low w h) ∙ d.own w h;
+        other = λ w v hw hv ne. ap₂ dot (wanted_at w) (dual_at v) ∙ pairing_carried n at p (get_or words w 0) (get_or duals v 0) (low w hw) ∙ d.other w v hw hv ne;
       }
 
   -- words with one bit are wanted sets with one place
@@ -55,7 +55,7 @@ module _ (n : ℕ) (words at : List ℕ) (p : Placement n at) (low : (w : ℕ) �
   planned_in adj ys ds es before after new k len small leny pl lo =
       let own : (w : ℕ) → w < n → (q : ℕ) × (q < n) × (get_or ys w 0 ≡ 2 ^ q) =
       λ w h. (let o = pl.own_places.single w (omega arith) in (o.0, omega (arith, o.1), o.2)) in
-      let new-at : (w : ℕ) (h : w < n) → get_or (take n new) w 0 ≡ (own w h).0 =
+      let new_at : (w : ℕ) (h : w < n) → get_or (take n new) w 0 ≡ (own w h).0 =
       λ w h. get_or-take n new w 0 h ∙ lo.singles w (own w h).0 (omega arith) (omega (arith, (own w h).1)) (own w h).2 in
       record {
         wrote = subst (λ (m : ℕ). Wrote before after 0 k (room m)) len pl.wrote;
@@ -63,12 +63,12 @@ module _ (n : ℕ) (words at : List ℕ) (p : Placement n at) (low : (w : ℕ) �
           on_couplers = pl.on_edges;
           placed = record {
             one_each = (let e = length-take n new in let f = lo.wide in omega arith);
-            below = λ w h. subst (λ (q : ℕ). q < n) (sym (new-at w h)) (own w h).1;
+            below = λ w h. subst (λ (q : ℕ). q < n) (sym (new_at w h)) (own w h).1;
             apart = λ v w hv hw e. pl.own_places.apart v w (omega arith) (omega arith)
-                ((own v hv).2 ∙ ap (λ (q : ℕ). 2 ^ q) (sym (new-at v hv) ∙ e ∙ new-at w hw) ∙ sym (own w hw).2);
+                ((own v hv).2 ∙ ap (λ (q : ℕ). 2 ^ q) (sym (new_at v hv) ∙ e ∙ new_at w hw) ∙ sym (own w hw).2);
           };
           delivers = λ w h.
-              ap (λ (q : ℕ). get_or (replay (gates_in after 0 k) (fresh n)) q 0) (new-at w h)
+              ap (λ (q : ℕ). get_or (replay (gates_in after 0 k) (fresh n)) q 0) (new_at w h)
               ∙ pl.delivers (fresh n) (length_fresh n ∙ sym len) w (own w h).0 (own w h).2
               ∙ fresh_xors_are_sets n (get_or (map (wires_to_places at) words) w 0) (wanted_below w) ∙ wanted_at w;
         };

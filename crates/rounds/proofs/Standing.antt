@@ -46,7 +46,7 @@ still_waiting waiting w v hw o = elim (cases_eq v w) [
 -- a wire w that a round gave the place r
 module _ (adj A B A' B' : List ℕ) (live waiting w r : ℕ) (gs : List Gate) (g : Graph adj) (s : Standing adj live waiting A B)
     (below : waiting < 2 ^ length adj) (hw : bit waiting w ≡ 1) (lr : bit live r ≡ 1) (rn : r < length adj) (can_go : CanGo adj live r)
-    (two : Each (TwoPlaces (length adj)) gs) (on-isl : Each (OnIsland adj live r) gs)
+    (two : Each (TwoPlaces (length adj)) gs) (on_isl : Each (OnIsland adj live r) gs)
     (moved : Moved gs A A') (duals_moved : Moved (turned gs) B B') (brought : get_or A' w 0 ≡ 2 ^ r)
     (alone : (q : ℕ) → Reach adj live r q → bit (get_or B' w 0) q ≡ bit (2 ^ r) q)
     (told : Told adj live r) where
@@ -62,7 +62,7 @@ module _ (adj A B A' B' : List ℕ) (live waiting w r : ℕ) (gs : List Gate) (g
   -- a set with a place on r's island stays on it
   stays_on : (v : ℕ) → bit waiting v ≡ 1 → (p : ℕ) → bit (get_or A v 0) p ≡ 1 → Reach adj live r p → (q : ℕ) → bit (get_or A' v 0) q ≡ 1 → Reach adj live r q
   stays_on v o p a i q b =
-      acts_in (Reach adj live r) gs (get_or A v 0) (each_map (OnIsland adj live r) (λ h. Reach adj live r h.0) (λ h f. f.0) gs on-isl)
+      acts_in (Reach adj live r) gs (get_or A v 0) (each_map (OnIsland adj live r) (λ h. Reach adj live r h.0) (λ h f. f.0) gs on_isl)
       (λ t c. reach_trans i (s.on_island v o p t a c)) q (was v q b)
 
   -- a set with a place flip-off it stays as it is
@@ -70,7 +70,7 @@ module _ (adj A B A' B' : List ℕ) (live waiting w r : ℕ) (gs : List Gate) (g
   stays_off v o p a nay =
       moved v ∙ acts_still gs (get_or A v 0)
       (each_map (OnIsland adj live r) (λ h. bit (get_or A v 0) h.1 ≡ 0)
-      (λ h f. clear_unless (get_or A v 0) h.1 (λ b. nay (reach_trans f.1 (s.on_island v o h.1 p b a)))) gs on-isl)
+      (λ h f. clear_unless (get_or A v 0) h.1 (λ b. nay (reach_trans f.1 (s.on_island v o h.1 p b a)))) gs on_isl)
 
   place : (v : ℕ) → bit waiting v ≡ 1 → (p : ℕ) × (bit (get_or A v 0) p ≡ 1)
   place v o = some_place (get_or A v 0) (dot_some (get_or A v 0) (get_or B v 0) (s.paired.own v (wire v o)))
@@ -110,7 +110,7 @@ module _ (adj A B A' B' : List ℕ) (live waiting w r : ℕ) (gs : List Gate) (g
           flip_other live r d.0 (λ e. zero_one (bit live d.0) d.2 (ap (bit live) e ∙ lr)) ∙ d.2,
           moved v ∙ ap (acts gs) d.3 ∙ acts_still gs (2 ^ d.0)
               (each_map (OnIsland adj live r) (λ k. bit (2 ^ d.0) k.1 ≡ 0)
-              (λ k f. bit_pow_other d.0 k.1 (λ e. zero_one (bit live d.0) d.2 (ap (bit live) (sym e) ∙ reach_live lr f.1))) gs on-isl),
+              (λ k f. bit_pow_other d.0 k.1 (λ e. zero_one (bit live d.0) d.2 (ap (bit live) (sym e) ∙ reach_live lr f.1))) gs on_isl),
         )
   ]
 
@@ -134,7 +134,7 @@ module _ (adj A B A' B' : List ℕ) (live waiting w r : ℕ) (gs : List Gate) (g
     alive = λ v o p b. let k = still_waiting waiting w v hw o in
         flip_other live r p (other v k.0 k.1 p b)
         ∙ acts_in (λ q. bit live q ≡ 1) gs (get_or A v 0)
-        (each_map (OnIsland adj live r) (λ h. bit live h.0 ≡ 1) (λ h f. reach_live lr f.0) gs on-isl) (s.alive v k.1) p (was v p b);
+        (each_map (OnIsland adj live r) (λ h. bit live h.0 ≡ 1) (λ h f. reach_live lr f.0) gs on_isl) (s.alive v k.1) p (was v p b);
     on_island = λ v o. let k = still_waiting waiting w v hw o in on_island' v k.0 k.1;
     done = done';
   }

@@ -1,5 +1,5 @@
 -- One wire is given a place of its own. A is what the wires want, B are their duals, and live the places not yet given.
-use Rattle.std.specs.Prelude.{◌≡◌, ℕ, ◌-◌, ◌*◌, ◌^◌, ◌<◌, ◌≢◌, ◌⊎◌, List, length, bit_xor, count_ones, slice_index, slice_index_or}
+use Rattle.std.specs.Prelude.{◌≡◌, ℕ, ◌-◌, ◌*◌, ◌^◌, ◌<◌, ◌≢◌, ◌⊎◌, List, length, bit_xor, count_ones, slice_index}
 use Rattle.parity.specs.Sets.{bit}
 use Rattle.parity.specs.Gates.{TwoPlaces, Each}
 use Rattle.parity.specs.Pairing.{turned}
@@ -19,7 +19,7 @@ pub record BothBrought (adj : List ℕ) (live w r : ℕ) (A A' B B' out out' : L
   pub on_island : Each (OnIsland adj live r) (gates_in out' at end)
   pub moved : Moved (gates_in out' at end) A A'
   pub duals_moved : Moved (turned (gates_in out' at end)) B B'
-  pub brought : slice_index_or A' w 0 ≡ 2 ^ r
+  pub brought : slice_index A' w ≡ 2 ^ r
   pub dual_alone : (q : ℕ) → Reach adj live r q → bit (slice_index B' w) q ≡ bit (2 ^ r) q
 
 -- w is given r by a round, since some set on the island of r is no single place
@@ -34,7 +34,7 @@ pub record AtRest (adj : List ℕ) (live w r : ℕ) (A A' B B' out out' : List �
   pub duals : B' ≡ B
   pub entries : out' ≡ out
   pub stays : end ≡ at
-  pub single : slice_index_or A w 0 ≡ 2 ^ r
+  pub single : slice_index A w ≡ 2 ^ r
   pub others : (v : ℕ) → v < length A → (q : ℕ) → bit (slice_index A v) q ≡ 1 → Reach adj live r q → count_ones (slice_index A v) ≡ 1
 
 -- w is given r

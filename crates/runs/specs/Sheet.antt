@@ -6,7 +6,7 @@ use Rattle.session.specs.declared.records.CouplerRecord.{CouplerRecord}
 use Rattle.session.specs.declared.records.CouplerRecord.TheVariants.{In, Out, WrittenOff}
 use Rattle.runs.specs.Runs.{Call, cx, swap, take_out, give_back, write_off, flush, Event}
 
--- the last obeyed take_out, give-back or write-off of a coupler
+-- the last obeyed take-out, give-back or write-off of a coupler
 pub data Last : Type 0 where
   never : Last
   taken_out : Last
@@ -68,7 +68,7 @@ record_by taken_out = Out
 record_by given_back = In
 record_by written_off = WrittenOff
 
--- out on a pass: a take_out
+-- out on a pass: a take-out
 abbrev pub out_one : Last → ℕ
 out_one never = 0
 out_one taken_out = 1

@@ -1,5 +1,5 @@
 -- Slots for passes: an obeyed take-out fills one, an obeyed give-back or write-off empties one.
-use Rattle.std.specs.Prelude.{◌≡◌, ℕ, Bool, false, cond, not, List, length, get_or, is_some, Some, None, Ok, Err, Option, Result, nat_lt, slice_index_or, slice_set}
+use Rattle.std.specs.Prelude.{◌≡◌, ℕ, Bool, false, cond, not, List, length, is_some, Some, None, Ok, Err, Option, Result, nat_lt, slice_index_or, slice_set}
 use Rattle.session_fault.specs.declared.SessionFault.{SessionFault}
 use Rattle.session.specs.declared.pass.Pass.{Pass}
 use Rattle.session.specs.State.{State}
@@ -36,7 +36,7 @@ pub record TakesInto (s : State) (h : Slots) (k slot : ℕ) (a : Answer) (t : St
 
 pub record GivesFrom (s : State) (h : Slots) (slot : ℕ) (a : Answer) (t : State) (i : Slots) : Type 0 where
   pub pass : Pass
-  pub there : get_or h slot None ≡ Some pass
+  pub there : slice_index_or h slot None ≡ Some pass
   pub result : Result (Unit {0}) (SessionFault × Pass)
   pub call : GiveBack s pass result t
   pub answer : a ≡ ended result
@@ -44,7 +44,7 @@ pub record GivesFrom (s : State) (h : Slots) (slot : ℕ) (a : Answer) (t : Stat
 
 pub record WritesFrom (s : State) (h : Slots) (slot : ℕ) (a : Answer) (t : State) (i : Slots) : Type 0 where
   pub pass : Pass
-  pub there : get_or h slot None ≡ Some pass
+  pub there : slice_index_or h slot None ≡ Some pass
   pub result : Result (Unit {0}) (SessionFault × Pass)
   pub call : WriteOff s pass result t
   pub answer : a ≡ ended result

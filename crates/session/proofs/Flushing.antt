@@ -50,10 +50,10 @@ flush_other_size s buffer r f h bad = by (cases_Bool (sized s))
 -- a buffer that was not refused is long enough
 pub long_enough : (n len : ℕ) (Sizes : Type 0) (r : Result Planned PlanFault) (p : Planned)
     → ((k : ℕ) → (r ≡ Err (plan.BufferTooShort k)) ↔ (Sizes × (len < room n) × (k ≡ room n))) → Sizes → r ≡ Ok p → room n ≤ len
-long_enough n len Sizes r p short-exactly sizes ok = by (cases_lt len (room n))
+long_enough n len Sizes r p short_exactly sizes ok = by (cases_lt len (room n))
   where
     by : (len < room n) ⊎ (room n ≤ len) → room n ≤ len
-    by (inl lt) = let e = (short-exactly (room n)).1 (sizes, lt, refl) in let z : ◌≡◌ {A = ℕ} 0 1 = cc in absurd (omega arith)
+    by (inl lt) = let e = (short_exactly (room n)).1 (sizes, lt, refl) in let z : ◌≡◌ {A = ℕ} 0 1 = cc in absurd (omega arith)
     by (inr le) = le
 
 pub planned_for : (s : State) (n : ℕ) (before after : List ℕ) (p : Planned) → sized s ≡ true → n ≡ s.session.places → room n ≤ length before

@@ -1,5 +1,5 @@
 // A pass: the duty to end the outage of one coupler, by giving it back or writing it off. It names the number of the session
-// that handed it out. It cannot be copied or made elsewhere, and no program that is proved lets one go.
+// that handed it out. It cannot be copied or made elsewhere, and no program that is proved lets one go that was handed out.
 ghost use Rattle.std.specs.Prelude.{◌≡◌, ◌≤◌};
 
 pub struct Pass {
@@ -7,8 +7,8 @@ pub struct Pass {
     pub(crate) coupler: usize,
 }
 
-// A chip has fewer couplers than this asks for, so no pass that was handed out meets it: the check refuses a program that
-// lets one go.
+// No chip has a coupler of that number, so no pass that was handed out meets this: the check refuses a program that lets
+// one go.
 impl Drop for Pass {
     fn drop(self)
         requires names_no_coupler { 256 ≤ self.coupler }

@@ -15,9 +15,9 @@ use Rattle.simulation.specs.Calls.{Does, DoesOrLacks, Again, chipless, before, o
 pub refused : {A : Type 0} (s : Status) (m m' : MachineStatus) (fault : Layout → Meaning → Option MachineFault) (x : A) (after : Status) (f : MachineFault) (r : Result A Refusal)
     → s.machine ≡ Some m → fault m.layout m.meaning ≡ Some f → m'.layout ≡ m.layout → m'.meaning ≡ m.meaning → r ≡ Err (Machine f)
     → Does s (on_machine s.machine fault) x after r (record { chip = s.chip; machine = Some m' })
-refused s m m' fault x after f r there is same_layout same-meaning bad =
+refused s m m' fault x after f r there is same_layout same_meaning bad =
     let why : on_machine s.machine fault ≡ Some (Machine f) = ap (λ (o : Option MachineStatus). on_machine o fault) there ∙ ap (λ (o : Option MachineFault). option_map Machine o) is in
-    let same : m' ≡ m = ap₂ (λ (l : Layout) (e : Meaning). record { layout = l; meaning = e }) same_layout same-meaning in
+    let same : m' ≡ m = ap₂ (λ (l : Layout) (e : Meaning). record { layout = l; meaning = e }) same_layout same_meaning in
     record {
       answers = bad ∙ sym (ap (λ (o : Option Refusal). answered o x) why);
       leaves = ap (λ (o : Option MachineStatus). record { chip = s.chip; machine = o }) (ap Some same ∙ sym there) ∙ sym (ap (λ (o : Option Refusal). kept o after s) why);

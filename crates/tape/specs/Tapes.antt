@@ -43,10 +43,10 @@ cnot_is l entries more long marks c t e h is grown =
 pub word_is : (l : Layout) (entries full part back : List ℕ) (n q : ℕ) → Sound l → n ≡ l.places → q < l.places → full ≡ fresh 64
     → part ≡ replay (map gate_of entries) (take (n - 0) full)
     → slice_index (part ++ back) q ≡ slice_index (replay (map gate_of entries) (fresh l.places)) q
-word_is l entries full part back n q so same h is-fresh replayed =
+word_is l entries full part back n q so same h is_fresh replayed =
     let front : n - 0 ≡ l.places = omega arith in
     let start : take (n - 0) full ≡ fresh l.places =
-    ap₂ (λ (k : ℕ) (ws : List ℕ). take k ws) front is-fresh ∙ take_fresh 64 l.places so.at_most_64 in
+    ap₂ (λ (k : ℕ) (ws : List ℕ). take k ws) front is_fresh ∙ take_fresh 64 l.places so.at_most_64 in
     let words : part ≡ replay (map gate_of entries) (fresh l.places) = replayed ∙ ap (replay (map gate_of entries)) start in
     let long : length part ≡ l.places = ap length words ∙ length_replay (map gate_of entries) (fresh l.places) ∙ length_fresh l.places in
     get_or_append_left part back 0 q (omega arith) ∙ ap (λ (ws : List ℕ). slice_index ws q) words

@@ -17,17 +17,17 @@ plan_lists-requires c =
     let s = c.if-not-one_size.ensures.yes refl in
     let l = neighbours_length a in
     let f : a.n ≤ 64 = a.few in
-    let same-b : length (neighbours_of a) ≡ b.n = l ∙ sym s.0 in
-    let same-p : length (neighbours_of a) ≡ p.n = l ∙ sym s.1 in
+    let same_b : length (neighbours_of a) ≡ b.n = l ∙ sym s.0 in
+    let same_p : length (neighbours_of a) ≡ p.n = l ∙ sym s.1 in
     record {
       small = omega arith;
       graph = neighbours_graph a;
-      lengths = (words_length b ∙ sym same-b, duals_length b ∙ sym same-b);
+      lengths = (words_length b ∙ sym same_b, duals_length b ∙ sym same_b);
       scratch = (first_of_64 a.n (replicate 64 0) refl f ∙ sym l, first_of_64 a.n (replicate 64 0) refl f ∙ sym l);
-      below = subst (λ (m : ℕ). (w : ℕ) → w < m → get_or (words_of b) w 0 < 2 ^ m) (sym same-b) (words_below b);
-      duals_below = subst (λ (m : ℕ). (w : ℕ) → w < m → get_or (duals_of b) w 0 < 2 ^ m) (sym same-b) (duals_below b);
-      paired = subst (λ (m : ℕ). Paired m (words_of b) (duals_of b)) (sym same-b) (block_paired b);
-      placed = subst (λ (m : ℕ). Placement m (places_of p)) (sym same-p) (places_placement p);
+      below = subst (λ (m : ℕ). (w : ℕ) → w < m → get_or (words_of b) w 0 < 2 ^ m) (sym same_b) (words_below b);
+      duals_below = subst (λ (m : ℕ). (w : ℕ) → w < m → get_or (duals_of b) w 0 < 2 ^ m) (sym same_b) (duals_below b);
+      paired = subst (λ (m : ℕ). Paired m (words_of b) (duals_of b)) (sym same_b) (block_paired b);
+      placed = subst (λ (m : ℕ). Placement m (places_of p)) (sym same_p) (places_placement p);
       room = (subst (λ (m : ℕ). room m ≤ length c.args.out.now) (sym l) c.if-out-needed.false, omega arith);
     }
 

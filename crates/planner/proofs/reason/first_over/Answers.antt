@@ -27,15 +27,15 @@ first_in_lists-requires g c =
     let s = c.if-not-one_size.ensures.yes refl in
     let l = neighbours_length a in
     let f : a.n ≤ 64 = a.few in
-    let same-b : length (neighbours_of a) ≡ b.n = l ∙ sym s.0 in
-    let same-p : length (neighbours_of a) ≡ p.n = l ∙ sym s.1 in
+    let same_b : length (neighbours_of a) ≡ b.n = l ∙ sym s.0 in
+    let same_p : length (neighbours_of a) ≡ p.n = l ∙ sym s.1 in
     record {
       small = omega arith;
       graph = neighbours_graph a;
-      lengths = (words_length b ∙ sym same-b, first_of_64 a.n (replicate 64 0) refl f ∙ sym l);
-      below = subst (λ (m : ℕ). (w : ℕ) → w < m → get_or (words_of b) w 0 < 2 ^ m) (sym same-b) (words_below b);
-      some = λ w h. dot_some (get_or (words_of b) w 0) (get_or (duals_of b) w 0) ((block_paired b).own w (subst (λ (m : ℕ). w < m) same-b h));
-      placed = subst (λ (m : ℕ). Placement m (places_of p)) (sym same-p) (places_placement p);
+      lengths = (words_length b ∙ sym same_b, first_of_64 a.n (replicate 64 0) refl f ∙ sym l);
+      below = subst (λ (m : ℕ). (w : ℕ) → w < m → get_or (words_of b) w 0 < 2 ^ m) (sym same_b) (words_below b);
+      some = λ w h. dot_some (get_or (words_of b) w 0) (get_or (duals_of b) w 0) ((block_paired b).own w (subst (λ (m : ℕ). w < m) same_b h));
+      placed = subst (λ (m : ℕ). Placement m (places_of p)) (sym same_p) (places_placement p);
     }
 
 pub returns : goal.returns
