@@ -1,10 +1,11 @@
 -- Passes in slots can be ended, whatever turn is made.
-use Rattle.std.proofs.Common.{◌≡◌, ℕ, ◌+◌, ◌<◌, ◌≤◌, Bool, true, false, cond, not, eqb, ltb, ◌≢◌, ◌⊎◌, List, [], ◌∷◌, ◌++◌, length, get_or, take, set, replicate, is_some, Some, None, Option, Result, sym, refl, ap, ◌∙◌, subst, subst₂, inl, inr, arith, length-set}
+use Rattle.std.proofs.Common.{◌≡◌, ℕ, ◌+◌, ◌<◌, ◌≤◌, Bool, true, false, cond, not, eqb, ltb, ◌≢◌, ◌⊎◌, List, [], ◌∷◌, ◌++◌, length, get_or, take, set, replicate, is_some, Some, None, Ok, Option, Result, sym, refl, ap, ◌∙◌, subst, subst₂, inl, inr, arith, length-set}
 use lib.ListN.{length-replicate, get_or-eq_default, get_or-append}
 use Rattle.std.proofs.lemmas.List.{take_all, take-append-le, get_or-set_same, get_or-set_other, get_or-replicate}
 use Rattle.std.proofs.lemmas.Bool.{cases_eq, cases_lt, ltb-true, eq-eqb, and_from}
 use Rattle.chip.specs.Answers.{answered, kept}
-use Rattle.chip.specs.Layout.{Layout}
+use Rattle.chip.specs.Layout.{Layout, Sound}
+use Rattle.chip.proofs.Answers.{answered_ok}
 use Rattle.machine.specs.declared.fault.MachineFault.TheVariants.{NoSuchCoupler}
 use Rattle.machine.specs.Meaning.{Meaning}
 use Rattle.session_fault.specs.declared.SessionFault.{SessionFault}
@@ -15,7 +16,7 @@ use Rattle.session.specs.declared.records.CouplerRecord.TheVariants.{In, Out, Wr
 use Rattle.session.specs.State.{View, State, beside, sized, with_block}
 use Rattle.session.specs.New.{New}
 use Rattle.session.specs.Calls.{pair_fault}
-use Rattle.session.specs.Outages.{is_in, is_out, recorded, take_fault, end_fault, returned}
+use Rattle.session.specs.Outages.{is_in, is_out, recorded, take_fault, end_fault, returned, TakeOut}
 use Rattle.session.specs.Flushes.{Flush, other_size, short, unreachable, too_many, plays}
 use Rattle.runs.specs.Runs.{Event}
 use Rattle.script.specs.declared.order.Order.{Order}
@@ -44,6 +45,11 @@ innermost true false false x y z e = cc
 innermost false b true x y z e = refl
 innermost false b false x y z e = cc
 
+second : {F : Type 0} (a b : Bool) (o : Option F) (y z : F) → ◌≡◌ {A = Option F} (cond a (cond b o (Some y)) (Some z)) None → b ≡ true
+second true true o y z e = refl
+second true false o y z e = cc
+second false b o y z e = cc
+
 in_if_is_in : (r : CouplerRecord) → is_in r ≡ true → r ≡ In
 in_if_is_in In e = refl
 in_if_is_in Out e = cc
@@ -53,6 +59,17 @@ found_in : (s : State) (k : ℕ) → take_fault s k ≡ None → get_or s.sessio
 found_in s k e =
     in_if_is_in (get_or s.session.records k WrittenOff)
     (innermost (sized s) (ltb k (length s.layout.couplers)) (is_in (get_or s.session.records k WrittenOff)) CouplerNotIn (Machine NoSuchCoupler) SizeMismatch e)
+
+-- a pass that is handed out names a coupler of the chip
+pub handed_out_stays : (s t : State) (k : ℕ) (p : Pass) → Sound s.layout → TakeOut s k (Ok p) t → p.coupler < 256
+handed_out_stays s t k p so out =
+    let few = so.at_most_256 in
+    let free : take_fault s k ≡ None = answered_ok (take_fault s k) (record { session = s.session.number; coupler = k }) p (Ok p) out.answer refl in
+    let inside = ltb-true k (length s.layout.couplers) (second (sized s) (ltb k (length s.layout.couplers)) _ (Machine NoSuchCoupler) SizeMismatch free) in
+    let named : Ok p ≡ Ok (record { session = s.session.number; coupler = k }) = out.answer ∙ ap (λ (f : Option SessionFault). answered f (record { session = s.session.number; coupler = k })) free in
+    let same : p ≡ record { session = s.session.number; coupler = k } = cc in
+    let number : p.coupler ≡ k = ap (λ (q : Pass). q.coupler) same in
+    omega arith
 
 -- what is not the default is in the list
 inside : {A : Type 0} (xs : List A) (i : ℕ) (d a : A) → get_or xs i d ≡ a → (d ≡ a → ⊥) → i < length xs

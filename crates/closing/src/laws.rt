@@ -1,5 +1,12 @@
-// Passes in slots can be ended.
-ghost use Rattle.closing.specs.Laws.{StaysGood, StartsGood, AsManyAsOut};
+// No pass that was handed out may go, and passes in slots can be ended.
+ghost use Rattle.closing.specs.Laws.{HandedOutStays, StaysGood, StartsGood, AsManyAsOut};
+
+// A take-out on any machine hands out no pass that its bearer may let go.
+pub fn no_pass_handed_out_may_go() -> u8
+    ensures { HandedOutStays }
+{
+    0
+}
 
 // A script keeps it so that every pass in a slot can be ended and no two are for one coupler.
 pub fn passes_in_slots_stay_good() -> u8
