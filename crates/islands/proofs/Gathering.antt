@@ -1,7 +1,9 @@
 -- A set gathered along a tree, from the last place of the order up.
-use Rattle.std.proofs.Common.{◌≡◌, ℕ, ◌+◌, ◌-◌, ◌*◌, ◌^◌, ◌<◌, ◌≤◌, ◌≢◌, ◌⊎◌, List, [], ◌∷◌, length, get_or, take, drop, set, sym, refl, ap, ◌∙◌, subst, inl, inr, arith}
+use Rattle.std.proofs.Common.{◌≡◌, ℕ, ◌+◌, ◌-◌, ◌*◌, ◌^◌, ◌<◌, ◌≤◌, ◌≢◌, ◌⊎◌, List, [], ◌∷◌, ◌++◌, length, get_or, take, drop, set, sym, refl, ap, ◌∙◌, subst, inl, inr, arith}
 use lib.Bits.{bit_xor}
-use Rattle.std.proofs.lemmas.List.{take-set, take-set-le, drop-set-lt}
+use Rattle.std.proofs.Math.Seq.{take-append_seam, get_or-append_seam}
+use Rattle.std.proofs.lemmas.Grind.{get_or_after_one}
+use Rattle.std.proofs.lemmas.List.{take-set, take-set-le, take-take, drop-set-lt, get_or-take}
 use Rattle.std.proofs.lemmas.Bool.{cases_eq}
 use Rattle.parity.specs.Words.{Gate, entry}
 use Rattle.parity.specs.Sets.{bit}
@@ -185,6 +187,17 @@ gathering_step {order} {parent} {word} {before} {out} {at} {k} {i} {x} g out' j 
           (s.spares_the_others q (λ e. off i i0 g.inside (sym e))
           (ap (λ (z : ℕ). bit z q) (sym g.acted) ∙ acts_spare q (gates_in out at k) word was ∙ b));
     }
+
+-- the last of the places that are still to be cleared, and those before it
+pub last_left : (order front : List ℕ) (u : ℕ) → front ++ u ∷ [] ≡ take (length front + 1) (drop 1 order)
+    → (front ≡ take (length front) (drop 1 order)) × (get_or order (length front + 1) 0 ≡ u)
+last_left order front u e =
+    let k = length front in
+    let rest = drop 1 order in (
+      sym (take-append_seam front (u ∷ [])) ∙ ap (take k) e ∙ take-take k (k + 1) rest (omega arith),
+      ap (λ (m : ℕ). get_or order m 0) (omega arith) ∙ sym (get_or_after_one order k 0) ∙ sym (get_or-take (k + 1) rest k 0 (omega arith))
+          ∙ ap (λ l. get_or l k 0) (sym e) ∙ get_or-append_seam front u [] 0,
+    )
 
 -- at the root
 pub gathering_done : {order parent : List ℕ} {word : ℕ} {before out : List ℕ} {at k i x : ℕ} → Gathering order parent word before out at k i x

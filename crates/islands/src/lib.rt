@@ -23,11 +23,9 @@ pub fn island_of(adj: &[u64], live: u64, start: usize) -> u64
     let mut seen = single(start);
     let mut done: u64 = 0;
     'walk: loop {
-        let todo = without(seen, done);
-        if todo == 0 {
+        let Some(q) = lowest(without(seen, done)) else {
             return seen;
-        }
-        let q = lowest(todo);
+        };
         seen = with_live(seen, adj[q], live);
         done ^= single(q);
     }
@@ -55,14 +53,13 @@ pub fn tree_order(
     let mut head = 0;
     while head < n {
         let q = order[head];
-        let fresh = without(adj[q] & live, seen);
-        if fresh == 0 {
-            head += 1;
-        } else {
-            let r = lowest(fresh);
-            seen ^= single(r);
-            hang(order, parent, n, r, q);
-            n += 1;
+        match lowest(without(adj[q] & live, seen)) {
+            Some(r) => {
+                seen ^= single(r);
+                hang(order, parent, n, r, q);
+                n += 1;
+            }
+            None => head += 1,
         }
     }
     n
@@ -107,14 +104,8 @@ pub fn gather(order: &[usize], parent: &[usize], word: u64, out: &mut [u16], at:
 {
     let mut x = word;
     let mut k = at;
-    let mut i = order.len() - 1;
-    while i > 0 {
-        let u = order[i];
-        let p = parent[u];
-        let (rest, next) = settle(u, p, x, out, k);
-        x = rest;
-        k = next;
-        i -= 1;
+    for u in order[1..].iter().rev() {
+        (x, k) = settle(*u, parent[*u], x, out, k);
     }
     k
 }

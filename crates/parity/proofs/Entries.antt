@@ -1,7 +1,8 @@
 -- The gates that stand in a buffer of entries.
 use Rattle.std.proofs.Common.{◌≡◌, ℕ, ◌+◌, ◌-◌, ◌<◌, ◌≤◌, List, [], ◌∷◌, ◌++◌, map, length, get_or, take, drop, set, sym, refl, ap, ◌∙◌, subst, ap₂, arith, take-add}
 use native.Mathlib.Nat.{sub_self}
-use Rattle.std.proofs.lemmas.List.{map-append, drop-append-le, length-take-le, drop_more, get_or-set_same, length-set, take-set, take-take, drop-drop, get_or-drop}
+use Rattle.std.proofs.Math.Seq.{take-append_seam, drop-append_seam}
+use Rattle.std.proofs.lemmas.List.{map-append, take_all, drop-append-le, length-take-le, drop_more, get_or-set_same, length-set, take-set, take-take, drop-drop, get_or-drop}
 use Rattle.std.proofs.lemmas.Slice.{between_is}
 use Rattle.parity.specs.Words.{Gate, entry, gate_of}
 use Rattle.parity.specs.Gates.{acts, Each}
@@ -19,6 +20,12 @@ unfolding gates_in
 gates_in_one xs k h =
     let one : k + 1 - k ≡ 1 = omega arith in
     ap₂ (λ (n : ℕ) (ys : List ℕ). map gate_of (take n ys)) one (drop_more xs k 0 h)
+
+pub gates_whole : (xs : List ℕ) → gates_in xs 0 (length xs) ≡ map gate_of xs
+unfolding gates_in
+gates_whole xs =
+    let all : length xs - 0 ≡ length xs = omega arith in
+    ap (λ (n : ℕ). map gate_of (take n xs)) all ∙ ap (map gate_of) (take_all (length xs) xs (omega arith))
 
 -- what stands before k is as it was
 pub gates_in_append : (xs ys : List ℕ) (i k j : ℕ) → i ≤ k → k ≤ j → k ≤ length xs → take k ys ≡ take k xs
@@ -81,6 +88,31 @@ pub get_d_behind : (xs ys : List ℕ) (k : ℕ) → drop k xs ≡ drop k ys → 
 get_d_behind xs ys k e =
     let z : k ≡ k + 0 = omega arith in
     ap (λ (m : ℕ). get_or xs m 0) z ∙ sym (get_or-drop k xs 0 0) ∙ ap (λ (zs : List ℕ). get_or zs 0 0) e ∙ get_or-drop k ys 0 0 ∙ ap (λ (m : ℕ). get_or ys m 0) (sym z)
+
+-- entries with others in place of those from i up to j
+module _ (xs es : List ℕ) (i j : ℕ) (ij : i ≤ j) (jl : j ≤ length xs) (long : length es ≡ j - i) where
+  before : length (take i xs) ≡ i
+  before = length-take-le i xs (omega arith)
+
+  pub put_front : take i (take i xs ++ (es ++ drop (j - i) (drop i xs))) ≡ take i xs
+  put_front = subst (λ (n : ℕ). take n (take i xs ++ (es ++ drop (j - i) (drop i xs))) ≡ take i xs) before
+      (take-append_seam (take i xs) (es ++ drop (j - i) (drop i xs)))
+
+  behind : drop i (take i xs ++ (es ++ drop (j - i) (drop i xs))) ≡ es ++ drop (j - i) (drop i xs)
+  behind = subst (λ (n : ℕ). drop n (take i xs ++ (es ++ drop (j - i) (drop i xs))) ≡ es ++ drop (j - i) (drop i xs)) before
+      (drop-append_seam (take i xs) (es ++ drop (j - i) (drop i xs)))
+
+  pub put_back : drop j (take i xs ++ (es ++ drop (j - i) (drop i xs))) ≡ drop j xs
+  put_back =
+      let at : i + length es ≡ j = omega arith in
+      let end : i + (j - i) ≡ j = omega arith in
+      ap (λ (n : ℕ). drop n (take i xs ++ (es ++ drop (j - i) (drop i xs)))) (sym at)
+      ∙ sym (drop-drop (length es) i (take i xs ++ (es ++ drop (j - i) (drop i xs))))
+      ∙ ap (drop (length es)) behind ∙ drop-append_seam es (drop (j - i) (drop i xs)) ∙ drop-drop (j - i) i xs ∙ ap (λ (n : ℕ). drop n xs) end
+
+  pub put_gates : gates_in (take i xs ++ (es ++ drop (j - i) (drop i xs))) i j ≡ map gate_of es
+  unfolding gates_in
+  put_gates = ap (map gate_of) (ap₂ take (sym long) behind ∙ take-append_seam es (drop (j - i) (drop i xs)))
 
 -- what gates do, one stretch more
 pub acts_more : (xs ys : List ℕ) (i k j w x y : ℕ) → i ≤ k → k ≤ j → k ≤ length xs → take k ys ≡ take k xs

@@ -4,6 +4,8 @@
 ghost use Rattle.std.specs.Prelude.{◌≡◌, map};
 ghost use Rattle.parity.specs.Words.{fresh, cnot, gate_of, replay, Rereads};
 
+use std::array;
+
 pub mod laws;
 pub mod sets;
 
@@ -11,11 +13,7 @@ pub mod sets;
 pub fn fresh_words() -> [u64; 64]
     ensures { result ≡ fresh 64 }
 {
-    let mut words = [0; 64];
-    for q in 0..64 {
-        words[q] = 1 << q;
-    }
-    words
+    array::from_fn(|q| 1 << q)
 }
 
 // Replays gates, each written as 64 x control + target, on words.

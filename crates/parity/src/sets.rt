@@ -1,7 +1,7 @@
 // Words as sets of places, in code. No place of a word is 64 or above.
-ghost use Rattle.std.specs.Prelude.{◌≡◌, ℕ, ◌-◌, ◌^◌, ◌<◌, ◌≤◌, ◌≢◌, ◌==◌, bit_xor};
+ghost use Rattle.std.specs.Prelude.{◌≡◌, ℕ, ◌-◌, ◌^◌, ◌<◌, ◌≤◌, ◌≢◌, ◌==◌, bit_xor, MatchOption};
 ghost use Rattle.parity.specs.Words.{entry};
-ghost use Rattle.parity.specs.Sets.{bit, when};
+ghost use Rattle.parity.specs.Sets.{bit, when, LowestPlace};
 ghost use Rattle.parity.specs.Gates.{act};
 ghost use Rattle.parity.specs.Pairing.{dot};
 
@@ -59,14 +59,15 @@ fn others(y: u64) -> u64
     !y
 }
 
-// The lowest place of x, and 64 where x is empty.
-pub fn lowest(x: u64) -> usize
-    ensures below { x ≢ 0 → result < 64 }
-    ensures inside { x ≢ 0 → bit x result ≡ 1 }
-    ensures least { (q : ℕ) → q < result → bit x q ≡ 0 }
-    ensures none { x ≡ 0 → result ≡ 64 }
+// The lowest place of x, if it has one.
+pub fn lowest(x: u64) -> Option<usize>
+    ensures { MatchOption result (x ≡ 0) (LowestPlace x) }
 {
-    zeros_before(x) as usize
+    if x == 0 {
+        None
+    } else {
+        Some(zeros_before(x) as usize)
+    }
 }
 
 // How many places there are before the first place of x.

@@ -1,6 +1,6 @@
 // The free choices of a plan: which wire is next, and which place it is given.
 // The plan is right for any choice that meets these contracts.
-ghost use Rattle.std.specs.Prelude.{◌≡◌, ℕ, ◌^◌, ◌<◌, ◌≤◌, true, ◌≢◌, length, ◌==◌, bit_xor};
+ghost use Rattle.std.specs.Prelude.{◌≡◌, ℕ, ◌^◌, ◌<◌, ◌≤◌, true, ◌≢◌, length, bit_xor, MatchOption};
 ghost use Rattle.parity.specs.Sets.{bit};
 ghost use Rattle.islands.specs.Graphs.{Reach};
 ghost use Rattle.rounds.specs.Ways.{Graph};
@@ -9,22 +9,20 @@ ghost use Rattle.rounds.specs.Rounds.{CanGo};
 use islands::{island_of, tree_order};
 use parity::sets::{has, lowest, single};
 
-// The first of the waiting wires whose set and dual have the fewest places.
-pub fn next_wire(waiting: u64, wanted: &[u64], duals: &[u64]) -> usize
-    requires some { waiting ≢ 0 }
-    requires lengths { (length wanted.now ≤ 64) × (length duals.now ≡ length wanted.now) }
-    ensures { bit waiting result ≡ 1 }
+// The first of the waiting wires whose set and dual have the fewest places, if any waits.
+pub fn next_wire(waiting: u64, wanted: &[u64], duals: &[u64]) -> Option<usize>
+    ensures { MatchOption result (waiting ≡ 0) (λ w. bit waiting w ≡ 1) }
 {
-    let mut w = lowest(waiting);
+    let mut next = lowest(waiting)?;
     let mut least: u32 = 129;
-    for v in 0..wanted.len() {
-        let size = wanted[v].count_ones() + duals[v].count_ones();
-        if size < least && has(waiting, v) {
-            w = v;
+    for (w, (x, y)) in wanted.iter().zip(duals.iter()).enumerate() {
+        let size = x.count_ones() + y.count_ones();
+        if size < least && has(waiting, w) {
+            next = w;
             least = size;
         }
     }
-    w
+    Some(next)
 }
 
 // A place of start's island that can go: the nearest to start that is found.
@@ -42,10 +40,9 @@ pub fn root(adj: &[u64], live: u64, start: usize) -> usize
     let mut parent = [0; 64];
     let n = tree_order(adj, live, start, &mut order, &mut parent);
     let island = island_of(adj, live, start);
-    for i in 0..n {
-        let r = order[i];
-        if hangs_together_without(adj, island, r) {
-            return r;
+    for r in &order[..n] {
+        if hangs_together_without(adj, island, *r) {
+            return *r;
         }
     }
     order[n - 1]
@@ -60,15 +57,8 @@ fn hangs_together_without(adj: &[u64], island: u64, r: usize) -> bool
     ensures { result ≡ true → (x y : ℕ) → x ≢ r → y ≢ r → bit island x ≡ 1 → bit island y ≡ 1 → Reach adj.now (bit_xor island (2 ^ r)) x y }
 {
     let rest = island ^ single(r);
-    if rest == 0 {
-        return true;
+    match lowest(rest) {
+        Some(q) => island_of(adj, rest, q) == rest,
+        None => true,
     }
-    found_all(island_of(adj, rest, lowest(rest)), rest)
-}
-
-// Whether what was found is all that there is.
-fn found_all(found: u64, all: u64) -> bool
-    ensures { result ≡ (found == all) }
-{
-    found == all
 }

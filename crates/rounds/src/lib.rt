@@ -39,15 +39,13 @@ pub fn plan(adj: &[u64], wanted: &mut [u64], duals: &mut [u64], out: &mut [u16])
     if all_single(wanted) {
         return Some(0);
     }
-    match first_straddling(adj, wanted) {
-        Some(_) => return None,
-        None => {}
+    if first_straddling(adj, wanted).is_some() {
+        return None;
     }
     let mut live = all_below(adj.len());
     let mut waiting = live;
     let mut at = 0;
-    while waiting != 0 {
-        let w = next_wire(waiting, wanted, duals);
+    while let Some(w) = next_wire(waiting, wanted, duals) {
         let (r, end) = give(adj, live, w, wanted, duals, out, at);
         at = end;
         live ^= single(r);
@@ -80,7 +78,9 @@ fn give(
     ensures told { Told adj.now live result.0 }
     ensures given { Given adj.now live w result.0 wanted.old wanted.new duals.old duals.new out.old out.new at result.1 }
 {
-    let start = lowest(wanted[w]);
+    let Some(start) = lowest(wanted[w]) else {
+        unreachable()
+    };
     let island = island_of(adj, live, start);
     if all_single_on(island, wanted) {
         return (start, at);

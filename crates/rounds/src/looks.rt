@@ -1,7 +1,7 @@
 // What is asked of wanted sets: whether they are single places, and whether they straddle islands.
 ghost use Rattle.std.specs.Prelude.{◌≡◌, ℕ, ◌^◌, ◌<◌, ◌≤◌, true, false, ◌≢◌, length, Some, None, bit_and, count_ones, slice_index};
 ghost use Rattle.parity.specs.Sets.{bit};
-ghost use Rattle.rounds.specs.Ways.{Graph, OneIsland};
+ghost use Rattle.rounds.specs.Ways.{Graph, OneIsland, Straddles};
 ghost use Rattle.rounds.specs.Plans.{AllSingle};
 ghost use Rattle.rounds.specs.Exactness.{FirstStraddling};
 
@@ -13,12 +13,7 @@ pub fn all_single(wanted: &[u64]) -> bool
     ensures yes { result ≡ true → AllSingle (length wanted.now) wanted.now }
     ensures no { AllSingle (length wanted.now) wanted.now → result ≡ true }
 {
-    for x in wanted {
-        if x.count_ones() != 1 {
-            return false;
-        }
-    }
-    true
+    wanted.iter().all(|x| x.count_ones() == 1)
 }
 
 // Whether each set with a place on the island is a single place.
@@ -26,12 +21,15 @@ pub fn all_single_on(island: u64, wanted: &[u64]) -> bool
     ensures yes { result ≡ true → (v : ℕ) → v < length wanted.now → (q : ℕ) → bit (slice_index wanted.now v) q ≡ 1 → bit island q ≡ 1 → count_ones (slice_index wanted.now v) ≡ 1 }
     ensures no { result ≡ false → (v : ℕ) × (v < length wanted.now) × (count_ones (slice_index wanted.now v) ≢ 1) × ((q : ℕ) × (bit (slice_index wanted.now v) q ≡ 1) × (bit island q ≡ 1)) }
 {
-    for x in wanted {
-        if *x & island != 0 && x.count_ones() != 1 {
-            return false;
-        }
-    }
-    true
+    wanted.iter().all(|x| is_single_on(island, *x))
+}
+
+// Whether the set is a single place, if it has a place on the island.
+fn is_single_on(island: u64, x: u64) -> bool
+    ensures yes { result ≡ true → (q : ℕ) → bit x q ≡ 1 → bit island q ≡ 1 → count_ones x ≡ 1 }
+    ensures no { result ≡ false → (count_ones x ≢ 1) × ((q : ℕ) × (bit x q ≡ 1) × (bit island q ≡ 1)) }
+{
+    x & island == 0 || x.count_ones() == 1
 }
 
 // The first wire whose set has two places with no way between them.
@@ -39,18 +37,24 @@ pub fn first_straddling(adj: &[u64], wanted: &[u64]) -> Option<usize>
     requires small { length adj.now ≤ 64 }
     requires graph { Graph adj.now }
     requires below { (w : ℕ) → slice_index wanted.now w < 2 ^ length adj.now }
-    requires some { (w : ℕ) → w < length wanted.now → slice_index wanted.now w ≢ 0 }
     ensures straddles { (w : ℕ) → result ≡ Some w → FirstStraddling adj.now wanted.now w }
     ensures none { result ≡ None → (w : ℕ) → w < length wanted.now → OneIsland adj.now (slice_index wanted.now w) }
 {
+    wanted.iter().position(|x| straddles(adj, *x))
+}
+
+// Whether the set has two places with no way between them.
+fn straddles(adj: &[u64], x: u64) -> bool
+    requires small { length adj.now ≤ 64 }
+    requires graph { Graph adj.now }
+    ensures yes { result ≡ true → x < 2 ^ length adj.now → Straddles adj.now x }
+    ensures no { result ≡ false → x < 2 ^ length adj.now → OneIsland adj.now x }
+{
     let live = all_below(adj.len());
-    for w in 0..wanted.len() {
-        let island = island_of(adj, live, lowest(wanted[w]));
-        if any(off_island(wanted[w], live, island)) {
-            return Some(w);
-        }
+    match lowest(x & live) {
+        Some(q) => off_island(x, live, island_of(adj, live, q)) != 0,
+        None => false,
     }
-    None
 }
 
 // The places of x that are of live and not of the island.
@@ -59,12 +63,4 @@ fn off_island(x: u64, live: u64, island: u64) -> u64
     ensures all { (q : ℕ) → bit (bit_and x live) q ≡ 1 → bit island q ≡ 0 → bit result q ≡ 1 }
 {
     without(x & live, island)
-}
-
-// Whether a set has a place.
-fn any(x: u64) -> bool
-    ensures yes { result ≡ true → x ≢ 0 }
-    ensures no { result ≡ false → x ≡ 0 }
-{
-    x != 0
 }

@@ -1,6 +1,6 @@
 // A round: gates that bring a wire's wanted set to a place, and of its dual leave there nothing else on the island.
 ghost use Rattle.std.specs.Prelude.{◌≡◌, ℕ, ◌+◌, ◌-◌, ◌*◌, ◌/◌, ◌%◌, ◌^◌, ◌<◌, ◌≤◌, map, length, take, drop, count_ones, slice_index};
-ghost use Rattle.parity.specs.Words.{entry};
+ghost use Rattle.parity.specs.Words.{entry, gate_of};
 ghost use Rattle.parity.specs.Sets.{bit};
 ghost use Rattle.parity.specs.Gates.{act, TwoPlaces, Each};
 ghost use Rattle.parity.specs.Pairing.{dot, turned};
@@ -35,25 +35,24 @@ pub fn bring_both(
     ensures told { Told adj.now live r }
 {
     let mid = bring(adj, live, r, wanted[w], out, at);
-    carry(out, at, mid, wanted, duals);
+    carry(&out[at..mid], wanted, duals);
     let island = island_of(adj, live, r);
     let end = bring(adj, live, r, duals[w] & island, out, mid);
-    carry(out, mid, end, duals, wanted);
-    turn(out, mid, end);
+    carry(&out[mid..end], duals, wanted);
+    turn(&mut out[mid..end]);
     end
 }
 
-// The gates of the entries of out from `from` up to `to` act on each set of `straight`, and turned on each of `reversed`.
-fn carry(out: &[u16], from: usize, to: usize, straight: &mut [u64], reversed: &mut [u64])
-    requires range { (from ≤ to) × (to ≤ length out.now) }
-    requires places { Each (TwoPlaces 64) (gates_in out.now from to) }
-    ensures moved { Moved (gates_in out.now from to) straight.old straight.new }
-    ensures moved_turned { Moved (turned (gates_in out.now from to)) reversed.old reversed.new }
+// The gates of the entries act on each set of `straight`, and turned on each of `reversed`.
+fn carry(entries: &[u16], straight: &mut [u64], reversed: &mut [u64])
+    requires { Each (TwoPlaces 64) (map gate_of entries.now) }
+    ensures moved { Moved (map gate_of entries.now) straight.old straight.new }
+    ensures moved_turned { Moved (turned (map gate_of entries.now)) reversed.old reversed.new }
 {
-    for k in from..to {
-        let e = out[k] as usize;
-        act_on_each(straight, e / 64, e % 64);
-        act_on_each(reversed, e % 64, e / 64);
+    for e in entries {
+        let (c, t) = ((*e / 64) as usize, (*e % 64) as usize);
+        act_on_each(straight, c, t);
+        act_on_each(reversed, t, c);
     }
 }
 
@@ -67,16 +66,13 @@ fn act_on_each(sets: &mut [u64], c: usize, t: usize)
     }
 }
 
-// Exchanges control and target in the entries of out from `from` up to `to`.
-fn turn(out: &mut [u16], from: usize, to: usize)
-    requires range { (from ≤ to) × (to ≤ length out.old) }
-    requires places { Each (TwoPlaces 64) (gates_in out.old from to) }
-    ensures front { take from out.new ≡ take from out.old }
-    ensures back { drop to out.new ≡ drop to out.old }
-    ensures turned { gates_in out.new from to ≡ turned (gates_in out.old from to) }
+// Exchanges control and target in each entry.
+fn turn(entries: &mut [u16])
+    requires { Each (TwoPlaces 64) (map gate_of entries.old) }
+    ensures { map gate_of entries.new ≡ turned (map gate_of entries.old) }
 {
-    for k in from..to {
-        out[k] = turned_entry(out[k]);
+    for e in entries.iter_mut() {
+        *e = turned_entry(*e);
     }
 }
 

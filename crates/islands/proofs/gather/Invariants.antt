@@ -1,8 +1,9 @@
+use Rattle.std.proofs.Common.{◌≡◌, length, take, drop}
 use Rattle.islands.proofs.Gathering.{Gathering}
 use Rattle.islands.proofs.gather.Given as goal
 
-abbrev pub invariant-loop-i : goal.invariant-loop-i
-invariant-loop-i l = Gathering l.order l.parent l.word l.initial.out l.out l.at l.k l.i l.x
-
-abbrev pub decreases-loop-i : goal.decreases-loop-i
-decreases-loop-i l = l.i
+-- the places that are left are the first after the root
+abbrev pub invariant-loop-u : goal.invariant-loop-u
+invariant-loop-u l =
+    let left = l.u-iterator.iter.rest.now in
+    (left ≡ take (length left) (drop 1 l.order)) × Gathering l.order l.parent l.word l.initial.out l.out l.at l.k (length left) l.x

@@ -19,13 +19,13 @@ walk-init c =
       λ q _ o _ _. zero_one (bit 0 q) (bit_none q) o,
     )
 
-pub returns-then-todo-eq0 : goal.returns-then-todo-eq0
-returns-then-todo-eq0 c =
+pub returns-in_default : goal.returns-in_default
+returns-in_default c =
     let inv = c.walk.invariant in
     let seen = c.walk.seen in
-    let none : (q : ℕ) → bit c.without-todo.result q ≡ 0 = λ q. ap (λ x. bit x q) c.if-todo-eq0.true ∙ bit_none q in
+    let none : (q : ℕ) → bit c.without.result q ≡ 0 = λ q. ap (λ x. bit x q) c.in_default.ensures ∙ bit_none q in
     let all : (q : ℕ) → bit seen q ≡ 1 → bit c.walk.done q ≡ 1 =
-    λ q o. set_unless c.walk.done q (λ z. zero_one (bit c.without-todo.result q) (none q) (c.without-todo.ensures.all q o z)) in
+    λ q o. set_unless c.walk.done q (λ z. zero_one (bit c.without.result q) (none q) (c.without.ensures.all q o z)) in
     record {
       only_reached = inv.2;
       all_reached = λ q p. reach_closed c.args.adj.now c.args.live c.args.start seen inv.1 (λ a b h. inv.4 a b (all a h)) p;
@@ -33,18 +33,18 @@ returns-then-todo-eq0 c =
 
 pub bounds-adj-q : goal.bounds-adj-q
 bounds-adj-q c =
-    place_below (length c.args.adj.now) c.walk.seen c.lowest-q.result c.walk.invariant.0
-    (c.without-todo.ensures.only c.lowest-q.result (c.lowest-q.ensures.inside c.if-todo-eq0.false)).0
+    place_below (length c.args.adj.now) c.walk.seen c.in-Some.q c.walk.invariant.0
+    (c.without.ensures.only c.in-Some.q c.in-Some.ensures.inside).0
 
 -- the place that was picked: it is seen, and not done
-picked : (c : goal.After-single-done) → (bit c.walk.seen c.lowest-q.result ≡ 1) × (bit c.walk.done c.lowest-q.result ≡ 0)
-picked c = c.without-todo.ensures.only c.lowest-q.result (c.lowest-q.ensures.inside c.if-todo-eq0.false)
+picked : (c : goal.After-single-done) → (bit c.walk.seen c.in-Some.q ≡ 1) × (bit c.walk.done c.in-Some.q ≡ 0)
+picked c = c.without.ensures.only c.in-Some.q c.in-Some.ensures.inside
 
 pub walk-smaller : goal.walk-smaller
 walk-smaller c =
-    let q = c.lowest-q.result in
+    let q = c.in-Some.q in
     let d = c.walk.done in
-    let low = c.lowest-q.ensures.below c.if-todo-eq0.false in
+    let low = c.in-Some.ensures.below in
     let e : bit_xor d c.single-done.result ≡ d + 2 ^ q = ap (bit_xor d) (c.single-done.ensures.place low) ∙ flip_up d q (picked c).1 in
     let b : d < 2 ^ 64 = c.walk.invariant.3 in
     let p = pow_pos q in
@@ -55,12 +55,12 @@ pub walk-preserved : goal.walk-preserved
 walk-preserved c =
     let adj = c.args.adj.now in
     let live = c.args.live in
-    let q = c.lowest-q.result in
+    let q = c.in-Some.q in
     let d = c.walk.done in
     let seen = c.walk.seen in
     let inv = c.walk.invariant in
     let more = bit_and (get_or adj q 0) live in
-    let low = c.lowest-q.ensures.below c.if-todo-eq0.false in
+    let low = c.in-Some.ensures.below in
     let grown : c.with_live-seen.result ≡ bit_or seen more = c.with_live-seen.ensures in
     let e : bit_xor d c.single-done.result ≡ bit_xor d (2 ^ q) = ap (bit_xor d) (c.single-done.ensures.place low) in
     let kept : (r : ℕ) → bit seen r ≡ 1 → bit c.with_live-seen.result r ≡ 1 = λ r o. ap (λ z. bit z r) grown ∙ or_in_l seen more r o in (

@@ -20,8 +20,8 @@ bounds-adj-q c = growing_below c.loop-head.invariant.2 c.loop-head.head c.loop-h
 pub offset_bounds-adj-q : goal.offset_bounds-adj-q
 offset_bounds-adj-q c = omega (arith, growing_below c.loop-head.invariant.2 c.loop-head.head c.loop-head-test.true)
 
-pub loop-head-preserved-then-fresh-eq0 : goal.loop-head-preserved-then-fresh-eq0
-loop-head-preserved-then-fresh-eq0 c =
+pub loop-head-preserved : goal.loop-head-preserved
+loop-head-preserved c =
     let live = c.args.live in
     let seen = c.loop-head.seen in
     let from = get_or c.args.adj.now (get_or c.loop-head.order c.loop-head.head 0) 0 in (
@@ -29,26 +29,26 @@ loop-head-preserved-then-fresh-eq0 c =
       omega arith,
       growing_skip c.loop-head.invariant.2
           (λ r a b. set_unless seen r (λ z.
-          zero_one (bit c.without-fresh.result r) (ap (λ x. bit x r) c.if-fresh-eq0.true ∙ bit_none r)
-          (c.without-fresh.ensures.all r (and_in from live r a b) z))),
+          zero_one (bit c.without.result r) (ap (λ x. bit x r) c.in-None.ensures ∙ bit_none r)
+          (c.without.ensures.all r (and_in from live r a b) z))),
     )
 
 pub hang-requires : goal.hang-requires
 hang-requires c =
-    let next = next_place c.args.adj.now c.args.live c.loop-head.seen (get_or c.loop-head.order c.loop-head.head 0) c.lowest-r.result
-    c.requires.inside.1 (c.without-fresh.ensures.only c.lowest-r.result (c.lowest-r.ensures.inside c.if-fresh-eq0.false)) in
+    let next = next_place c.args.adj.now c.args.live c.loop-head.seen (get_or c.loop-head.order c.loop-head.head 0) c.in-Some.r
+    c.requires.inside.1 (c.without.ensures.only c.in-Some.r c.in-Some.ensures.inside) in
     let fits = growing_room c.loop-head.invariant.2 next in
     let same = length-set c.args.order.now 0 c.args.root in
     record { room = (omega arith, omega arith) }
 
-pub loop-head-preserved : goal.loop-head-preserved
-loop-head-preserved c =
-    let next = next_place c.args.adj.now c.args.live c.loop-head.seen (get_or c.loop-head.order c.loop-head.head 0) c.lowest-r.result
-    c.requires.inside.1 (c.without-fresh.ensures.only c.lowest-r.result (c.lowest-r.ensures.inside c.if-fresh-eq0.false)) in
+pub loop-head-preserved-in-Some : goal.loop-head-preserved-in-Some
+loop-head-preserved-in-Some c =
+    let next = next_place c.args.adj.now c.args.live c.loop-head.seen (get_or c.loop-head.order c.loop-head.head 0) c.in-Some.r
+    c.requires.inside.1 (c.without.ensures.only c.in-Some.r c.in-Some.ensures.inside) in
     let fits = growing_room c.loop-head.invariant.2 next in
     let same = length-set c.args.order.now 0 c.args.root in
-    let grown : bit_xor c.loop-head.seen c.single-seen-else-fresh-eq0.result ≡ bit_xor c.loop-head.seen (2 ^ c.lowest-r.result) =
-    ap (bit_xor c.loop-head.seen) (c.single-seen-else-fresh-eq0.ensures.place (omega arith)) in (
+    let grown : bit_xor c.loop-head.seen c.single-seen-in-Some.result ≡ bit_xor c.loop-head.seen (2 ^ c.in-Some.r) =
+    ap (bit_xor c.loop-head.seen) (c.single-seen-in-Some.ensures.place (omega arith)) in (
       omega arith,
       omega arith,
       simp (c.hang.ensures.placed, c.hang.ensures.below_its_parent, grown)

@@ -1,9 +1,10 @@
-use Rattle.std.proofs.Common.{arith, length-set}
-use Rattle.parity.proofs.Words.{fresh_more, fresh_from}
+use Rattle.std.proofs.Common.{◌≡◌, ◌*◌, ◌%◌, ◌^◌, get_or, rules, ◌∙◌}
+use Rattle.std.proofs.lemmas.Nat.{one_shl}
+use Rattle.parity.proofs.Words.{fresh_from}
 use Rattle.parity.proofs.fresh_words.Goals as goal
 
-pub loop-q-preserved : goal.loop-q-preserved
-loop-q-preserved c = (simp length-set c.loop-q.invariant.0, fresh_more c.loop-q.words c.loop-q.q c.loop-q.invariant.0 (omega arith) c.loop-q.invariant.1)
-
 pub returns : goal.returns
-returns c = fresh_from c.loop-q.words 64 c.loop-q.invariant.0 (λ k h. c.loop-q.invariant.1 k (omega arith))
+returns c = fresh_from c.from_fn.result 64 c.from_fn.ensures.items.long
+    (λ q h. let call = c.from_fn.ensures.items.at q 0 h in
+    let made : get_or c.from_fn.result q 0 ≡ (1 * 2 ^ q) % 2 ^ 64 = search rules in
+    made ∙ one_shl q 64 h)

@@ -2,27 +2,26 @@ use Rattle.std.proofs.Common.{◌≡◌, ℕ, ◌^◌, length, get_or, sym, refl
 use Rattle.parity.specs.Sets.{bit}
 use Rattle.parity.proofs.Bits.{zero_one, bit_cases, place_below, place_is}
 use Rattle.parity.proofs.Counts.{single_place}
-use Rattle.parity.proofs.Pairing.{dot_some}
 use Rattle.islands.specs.Graphs.{here}
 use Rattle.rounds.proofs.Ways.{reach_trans, reach_back}
 use Rattle.rounds.proofs.give.Goals as goal
 
 pub island_of-island-requires : goal.island_of-island-requires
 island_of-island-requires c =
-    let o = c.lowest-start.ensures.inside (dot_some (get_or c.args.wanted.now c.args.w 0) (get_or c.args.duals.now c.args.w 0) c.requires.paired) in
-    let l = c.requires.alive c.lowest-start.result o in
+    let o = c.in-Some.ensures.inside in
+    let l = c.requires.alive c.in-Some.start o in
     record {
       small = c.requires.small;
-      inside = (place_below (length c.args.adj.now) c.args.live c.lowest-start.result c.requires.inside l, c.requires.inside);
+      inside = (place_below (length c.args.adj.now) c.args.live c.in-Some.start c.requires.inside l, c.requires.inside);
     }
 
 pub returns-then-all_single_on : goal.returns-then-all_single_on
 returns-then-all_single_on c =
     let xs = c.args.wanted.now in
     let w = c.args.w in
-    let start = c.lowest-start.result in
+    let start = c.in-Some.start in
     let isl = c.island_of-island.result in
-    let o = c.lowest-start.ensures.inside (dot_some (get_or xs w 0) (get_or c.args.duals.now w 0) c.requires.paired) in
+    let o = c.in-Some.ensures.inside in
     let l = c.requires.alive start o in
     let yes = c.if-all_single_on.ensures.yes refl in
     let s = single_place (get_or xs w 0) (yes w c.requires.wire.0 start o (c.island_of-island.ensures.all_reached start here)) in
@@ -46,19 +45,19 @@ returns-then-all_single_on c =
 
 pub root-r-requires : goal.root-r-requires
 root-r-requires c =
-    let o = c.lowest-start.ensures.inside (dot_some (get_or c.args.wanted.now c.args.w 0) (get_or c.args.duals.now c.args.w 0) c.requires.paired) in
-    let l = c.requires.alive c.lowest-start.result o in
+    let o = c.in-Some.ensures.inside in
+    let l = c.requires.alive c.in-Some.start o in
     record {
       small = c.requires.small;
       graph = c.requires.graph;
-      inside = (place_below (length c.args.adj.now) c.args.live c.lowest-start.result c.requires.inside l, c.requires.inside);
+      inside = (place_below (length c.args.adj.now) c.args.live c.in-Some.start c.requires.inside l, c.requires.inside);
       alive = l;
     }
 
 pub bring_both-end-requires : goal.bring_both-end-requires
 bring_both-end-requires c =
-    let start = c.lowest-start.result in
-    let o = c.lowest-start.ensures.inside (dot_some (get_or c.args.wanted.now c.args.w 0) (get_or c.args.duals.now c.args.w 0) c.requires.paired) in
+    let start = c.in-Some.start in
+    let o = c.in-Some.ensures.inside in
     record {
       small = c.requires.small;
       inside = (c.root-r.ensures.below, c.requires.inside);
@@ -71,8 +70,8 @@ bring_both-end-requires c =
 
 pub returns : goal.returns
 returns c =
-    let start = c.lowest-start.result in
-    let o = c.lowest-start.ensures.inside (dot_some (get_or c.args.wanted.now c.args.w 0) (get_or c.args.duals.now c.args.w 0) c.requires.paired) in
+    let start = c.in-Some.start in
+    let o = c.in-Some.ensures.inside in
     let e = c.bring_both-end.ensures in
     let n = c.if-all_single_on.ensures.no refl in
     let back = reach_back c.requires.graph (c.requires.alive start o) c.root-r.ensures.reached in

@@ -1,7 +1,7 @@
-use Rattle.std.proofs.Common.{◌≡◌, ℕ, ◌+◌, ◌-◌, ◌*◌, ◌^◌, ◌<◌, ◌≤◌, List, length, get_or, sym, refl, ap, ◌∙◌, subst, inl, arith}
+use Rattle.std.proofs.Common.{◌≡◌, ℕ, Option, Some, None, is_some, true, false, ◌+◌, ◌-◌, ◌*◌, ◌^◌, ◌<◌, ◌≤◌, List, length, get_or, sym, refl, ap, ◌∙◌, subst, inl, arith}
 use lib.Bits.{bit_xor}
 use lib.Count.{ones, ones-ones}
-use Rattle.std.proofs.lemmas.Bool.{both_ways}
+use Rattle.std.proofs.lemmas.Bool.{both_ways, false≢true, true≢false}
 use Rattle.parity.specs.Words.{Gate}
 use Rattle.parity.specs.Gates.{acts, Each}
 use Rattle.parity.specs.Pairing.{turned}
@@ -29,30 +29,39 @@ returns-then-all_single c =
       nothing_touched = λ e. absurd (let z : ◌≡◌ {A = ℕ} 0 1 = cc in omega arith);
     }
 
+-- the first set that straddles, where one was found
+found : (o : Option ℕ) → is_some o ≡ true → (w : ℕ) × (o ≡ Some w)
+found (Some w) _ = (w, refl)
+found None e = absurd (false≢true e)
+
+not_found : (o : Option ℕ) → is_some o ≡ false → o ≡ None
+not_found (Some w) e = absurd (true≢false e)
+not_found None _ = refl
+
 -- no way
 pub first_straddling-requires : goal.first_straddling-requires
 first_straddling-requires c = record {
   small = c.requires.small;
   graph = c.requires.graph;
   below = c.requires.sets_below;
-  some = λ w h. dot_some (get_or c.args.wanted.now w 0) (get_or c.args.duals.now w 0) (c.requires.paired.own w (omega (arith, c.requires.lengths.0)));
 }
 
-pub returns-in-Some : goal.returns-in-Some
-returns-in-Some c =
-    let s = c.first_straddling.ensures.straddles c.in-Some.field-0 c.in-Some.is in
-    let f = straddling_refused c.args.adj.now c.args.wanted.now c.requires.graph
-    (c.in-Some.field-0, subst (λ (m : ℕ). c.in-Some.field-0 < m) c.requires.lengths.0 s.below, s.straddles) in
+pub returns-then-is_some : goal.returns-then-is_some
+returns-then-is_some c =
+    let f = found c.first_straddling.result (sym c.if-is_some.ensures) in
+    let w = f.0 in
+    let s = c.first_straddling.ensures.straddles w f.1 in
+    let no_way = straddling_refused c.args.adj.now c.args.wanted.now c.requires.graph (w, subst (λ (m : ℕ). w < m) c.requires.lengths.0 s.below, s.straddles) in
     record {
       planned = λ k e. absurd (let z : ◌≡◌ {A = ℕ} 0 1 = cc in omega arith);
-      refused = λ _. f;
-      exact = refused_exact c.args.adj.now c.args.wanted.now f;
+      refused = λ _. no_way;
+      exact = refused_exact c.args.adj.now c.args.wanted.now no_way;
       nothing_touched = λ _. (refl, refl, refl);
     }
 
 -- the rounds
-pub loop-waiting-init : goal.loop-waiting-init
-loop-waiting-init c =
+pub loop-w-init : goal.loop-w-init
+loop-w-init c =
     let adj = c.args.adj.now in
     let n = length adj in
     let live = c.all_below-live.result in
@@ -62,7 +71,7 @@ loop-waiting-init c =
     let none = gates_in_none c.args.out.now 0 in
     record {
       standing = start_standing adj c.args.wanted.now c.args.duals.now live e c.requires.graph c.requires.sets_below c.requires.paired
-          (λ w h. c.in-None.ensures.none refl w (subst (λ (m : ℕ). w < m) (sym c.requires.lengths.0) h));
+          (λ w h. c.first_straddling.ensures.none (not_found c.first_straddling.result (sym c.if-is_some.ensures)) w (subst (λ (m : ℕ). w < m) (sym c.requires.lengths.0) h));
       live_below = below;
       waiting_below = below;
       touched = λ v _. inl refl;
@@ -77,15 +86,15 @@ loop-waiting-init c =
 pub give-r-requires : goal.give-r-requires
 give-r-requires c =
     let adj = c.args.adj.now in
-    let live = c.loop-waiting.live in
-    let k = c.loop-waiting.invariant in
+    let live = c.loop-w.live in
+    let k = c.loop-w.invariant in
     let s = k.standing in
-    let w = c.next_wire-w.result in
-    let o = c.next_wire-w.ensures in
-    let h = place_below (length adj) c.loop-waiting.waiting w k.waiting_below o in
-    let x = get_or c.loop-waiting.wanted w 0 in
-    let p = some_place x (dot_some x (get_or c.loop-waiting.duals w 0) (s.paired.own w h)) in
-    let paid = cost_round c.loop-waiting.at (ones live) (ones (bit_xor live (2 ^ p.0))) (2 * (length adj * (length adj - 1))) k.paid (ones_less live p.0 (s.alive w o p.0 p.1)) in
+    let w = c.in-Some.w in
+    let o = c.in-Some.ensures in
+    let h = place_below (length adj) c.loop-w.waiting w k.waiting_below o in
+    let x = get_or c.loop-w.wanted w 0 in
+    let p = some_place x (dot_some x (get_or c.loop-w.duals w 0) (s.paired.own w h)) in
+    let paid = cost_round c.loop-w.at (ones live) (ones (bit_xor live (2 ^ p.0))) (2 * (length adj * (length adj - 1))) k.paid (ones_less live p.0 (s.alive w o p.0 p.1)) in
     record {
       small = c.requires.small;
       graph = c.requires.graph;
@@ -97,48 +106,48 @@ give-r-requires c =
       room = omega arith;
     }
 
-pub loop-waiting-smaller : goal.loop-waiting-smaller
-loop-waiting-smaller c =
-    let h = place_below (length c.args.adj.now) c.loop-waiting.waiting c.next_wire-w.result c.loop-waiting.invariant.waiting_below c.next_wire-w.ensures in
-    subst (λ (x : ℕ). bit_xor c.loop-waiting.waiting x < c.loop-waiting.waiting) (sym (c.single-waiting.ensures.place (omega (arith, c.requires.small))))
-    (flip_less c.loop-waiting.waiting c.next_wire-w.result c.next_wire-w.ensures)
+pub loop-w-smaller : goal.loop-w-smaller
+loop-w-smaller c =
+    let h = place_below (length c.args.adj.now) c.loop-w.waiting c.in-Some.w c.loop-w.invariant.waiting_below c.in-Some.ensures in
+    subst (λ (x : ℕ). bit_xor c.loop-w.waiting x < c.loop-w.waiting) (sym (c.single-waiting.ensures.place (omega (arith, c.requires.small))))
+    (flip_less c.loop-w.waiting c.in-Some.w c.in-Some.ensures)
 
-pub loop-waiting-preserved : goal.loop-waiting-preserved
-loop-waiting-preserved c =
+pub loop-w-preserved : goal.loop-w-preserved
+loop-w-preserved c =
     let adj = c.args.adj.now in
     let xs = c.args.wanted.now in
-    let live = c.loop-waiting.live in
-    let waiting = c.loop-waiting.waiting in
+    let live = c.loop-w.live in
+    let waiting = c.loop-w.waiting in
     let A = c.give-r.new.wanted in
     let B = c.give-r.new.duals in
     let out = c.give-r.new.out in
-    let w = c.next_wire-w.result in
+    let w = c.in-Some.w in
     let r = c.give-r.result.0 in
     let end = c.give-r.result.1 in
     let e = c.give-r.ensures in
-    let h = place_below (length adj) waiting w c.loop-waiting.invariant.waiting_below c.next_wire-w.ensures in
+    let h = place_below (length adj) waiting w c.loop-w.invariant.waiting_below c.in-Some.ensures in
     let b : r < length adj = e.below in
     subst (λ (x : ℕ). Kept adj xs c.args.duals.now c.args.out.now (bit_xor live x) (bit_xor waiting c.single-waiting.result) A B out end)
     (sym (c.single-live.ensures.place (omega (arith, c.requires.small))))
     (subst (λ (x : ℕ). Kept adj xs c.args.duals.now c.args.out.now (bit_xor live (2 ^ r)) (bit_xor waiting x) A B out end)
     (sym (c.single-waiting.ensures.place (omega (arith, c.requires.small))))
-    (kept_given adj xs c.args.duals.now c.args.out.now live waiting w r c.loop-waiting.wanted A c.loop-waiting.duals B c.loop-waiting.out out c.loop-waiting.at end
-    c.requires.graph c.loop-waiting.invariant (c.loop-waiting.auto.wanted ∙ c.requires.lengths.0) (omega arith) c.next_wire-w.ensures e.below e.alive e.told e.given))
+    (kept_given adj xs c.args.duals.now c.args.out.now live waiting w r c.loop-w.wanted A c.loop-w.duals B c.loop-w.out out c.loop-w.at end
+    c.requires.graph c.loop-w.invariant (c.loop-w.auto.wanted ∙ c.requires.lengths.0) (omega arith) c.in-Some.ensures e.below e.alive e.told e.given))
 
 -- each wire has its place
 pub returns : goal.returns
 returns c =
     let adj = c.args.adj.now in
     let xs = c.args.wanted.now in
-    let at = c.loop-waiting.at in
-    let p = end_planned adj xs c.loop-waiting.wanted c.args.duals.now c.loop-waiting.duals c.args.out.now c.loop-waiting.out c.loop-waiting.live c.loop-waiting.waiting at
-    c.requires.graph c.requires.lengths.0 c.requires.lengths.1 c.requires.duals_below c.loop-waiting.auto.wanted c.loop-waiting.auto.duals c.loop-waiting-test.false c.loop-waiting.invariant
-    (λ w h. c.in-None.ensures.none refl w (subst (λ (m : ℕ). w < m) (sym c.requires.lengths.0) h))
+    let at = c.loop-w.at in
+    let p = end_planned adj xs c.loop-w.wanted c.args.duals.now c.loop-w.duals c.args.out.now c.loop-w.out c.loop-w.live c.loop-w.waiting at
+    c.requires.graph c.requires.lengths.0 c.requires.lengths.1 c.requires.duals_below c.loop-w.auto.wanted c.loop-w.auto.duals c.in_default.ensures c.loop-w.invariant
+    (λ w h. c.first_straddling.ensures.none (not_found c.first_straddling.result (sym c.if-is_some.ensures)) w (subst (λ (m : ℕ). w < m) (sym c.requires.lengths.0) h))
     (λ one. absurd (both_ways c.all_single.result c.if-all_single.false (c.all_single.ensures.no (λ w h. one w (subst (λ (m : ℕ). w < m) c.requires.lengths.0 h))))) in
     record {
       planned = λ k e. (let z : at ≡ k = cc in
-          subst (Planned adj xs c.loop-waiting.wanted c.args.duals.now c.loop-waiting.duals c.args.out.now c.loop-waiting.out) z p);
+          subst (Planned adj xs c.loop-w.wanted c.args.duals.now c.loop-w.duals c.args.out.now c.loop-w.out) z p);
       refused = λ e. absurd (let z : ◌≡◌ {A = ℕ} 0 1 = cc in omega arith);
-      exact = planned_exact adj xs c.loop-waiting.wanted c.args.duals.now c.loop-waiting.duals c.args.out.now c.loop-waiting.out at p;
+      exact = planned_exact adj xs c.loop-w.wanted c.args.duals.now c.loop-w.duals c.args.out.now c.loop-w.out at p;
       nothing_touched = λ e. absurd (let z : ◌≡◌ {A = ℕ} 0 1 = cc in omega arith);
     }

@@ -1,10 +1,12 @@
-use Rattle.std.proofs.Common.{◌≡◌, ℕ, ◌-◌, ◌^◌, ◌<◌, ◌≤◌, length, get_or, sym, refl, ap, ◌∙◌, inl, inr, arith}
+use Rattle.std.proofs.Common.{◌≡◌, ℕ, ◌-◌, ◌^◌, ◌<◌, ◌≤◌, List, length, get_or, take, sym, subst, refl, ap, ◌∙◌, inl, inr, arith}
 use lib.Bits.{bit_xor}
 use Rattle.std.proofs.lemmas.Bool.{cases_eq}
+use Rattle.std.proofs.lemmas.List.{length-take, get_or-take}
 use Rattle.parity.specs.Sets.{bit}
 use Rattle.parity.proofs.Bits.{zero_one, place_below, flip_other, flip_off}
 use Rattle.parity.proofs.Counts.{below_all}
 use Rattle.islands.specs.Graphs.{Reach}
+use Rattle.islands.specs.Trees.{TreeOrder}
 use Rattle.islands.proofs.Trees.{tree_reached}
 use Rattle.rounds.proofs.Ways.{reach_live, reach_trans, reach_more}
 use Rattle.rounds.proofs.Standing.{last_place_can_go}
@@ -29,20 +31,29 @@ returns c =
       can_go = last_place_can_go adj live start order parent n c.requires.graph t c.requires.alive;
     }
 
+-- the place at i of the order, read off the part that is in use: it is reached from the start
+in_use : (adj : List ℕ) (live start : ℕ) (order parent : List ℕ) (n i : ℕ) → TreeOrder adj live start order parent n → bit live start ≡ 1 → i < length (take n order)
+    → (get_or (take n order) i 0 < length adj) × Reach adj live start (get_or (take n order) i 0)
+in_use adj live start order parent n i t alive h =
+    let low : i < n = omega (arith, length-take {A = ℕ}) in
+    let same = sym (get_or-take n order i 0 low) in
+    (subst (λ (q : ℕ). q < length adj) same (t.below i low), subst (Reach adj live start) same (tree_reached t alive i low))
+
 pub hangs_together_without-requires : goal.hangs_together_without-requires
 hangs_together_without-requires c =
     let adj = c.args.adj.now in
-    let t = c.tree_order-n.ensures.tree in
-    let r = get_or c.tree_order-n.new.order c.loop-i.i 0 in
-    let p = tree_reached t c.requires.alive c.loop-i.i c.loop-i-test.true in
-    let l : r < length adj = t.below c.loop-i.i c.loop-i-test.true in
+    let n = c.tree_order-n.result in
+    let order = c.tree_order-n.new.order in
+    let r = get_or (take n order) c.loop-r.r-index 0 in
+    let it = in_use adj c.args.live c.args.start order c.tree_order-n.new.parent n c.loop-r.r-index c.tree_order-n.ensures.tree c.requires.alive c.loop-r-test.true in
+    let l : r < length adj = it.0 in
     let m : length adj ≤ 64 = c.requires.small in
     record {
       small = c.requires.small;
       graph = c.requires.graph;
       inside = below_all (length adj) c.island_of-island.result
           (λ q o. place_below (length adj) c.args.live q c.requires.inside.1 (reach_live c.requires.alive (c.island_of-island.ensures.only_reached q o)));
-      has = (c.island_of-island.ensures.all_reached r p, omega arith);
+      has = (c.island_of-island.ensures.all_reached r it.1, omega arith);
     }
 
 pub returns-then-hangs_together_without : goal.returns-then-hangs_together_without
@@ -50,12 +61,14 @@ returns-then-hangs_together_without c =
     let adj = c.args.adj.now in
     let live = c.args.live in
     let isl = c.island_of-island.result in
-    let t = c.tree_order-n.ensures.tree in
-    let r = get_or c.tree_order-n.new.order c.loop-i.i 0 in
-    let p = tree_reached t c.requires.alive c.loop-i.i c.loop-i-test.true in
+    let n = c.tree_order-n.result in
+    let order = c.tree_order-n.new.order in
+    let r = get_or (take n order) c.loop-r.r-index 0 in
+    let it = in_use adj live c.args.start order c.tree_order-n.new.parent n c.loop-r.r-index c.tree_order-n.ensures.tree c.requires.alive c.loop-r-test.true in
+    let p = it.1 in
     let on : (q : ℕ) → Reach adj live r q → bit isl q ≡ 1 = λ q s. c.island_of-island.ensures.all_reached q (reach_trans p s) in
     record {
-      below = t.below c.loop-i.i c.loop-i-test.true;
+      below = it.0;
       alive = reach_live c.requires.alive p;
       reached = p;
       can_go = λ x y nx ny px py. reach_more

@@ -1,4 +1,4 @@
-use Rattle.std.proofs.Common.{◌≡◌, ℕ, ◌+◌, ◌-◌, ◌*◌, ◌≤◌, List, ◌++◌, length, get_or, take, sym, ap, ◌∙◌, subst, inl, inr, arith}
+use Rattle.std.proofs.Common.{◌≡◌, ℕ, ◌+◌, ◌-◌, ◌*◌, ◌≤◌, List, ◌++◌, length, get_or, take, drop, sym, ap, ◌∙◌, subst, inl, inr, arith}
 use lib.Bits.{bit_and}
 use lib.Count.{ones}
 use Rattle.parity.specs.Words.{Gate}
@@ -11,7 +11,7 @@ use Rattle.parity.proofs.Masks.{and_in, and_parts, and_same}
 use Rattle.parity.proofs.Each.{each_map, each_turned, two_places_more}
 use Rattle.parity.proofs.Gates.{acts_agree}
 use Rattle.parity.proofs.Pairing.{dot_some, turned_append, turned_twice, turned_still}
-use Rattle.parity.proofs.Entries.{gates_in_append, each_more, front_kept, back_kept}
+use Rattle.parity.proofs.Entries.{gates_in_append, each_more, front_kept, back_kept, put_front, put_back, put_gates}
 use Rattle.islands.specs.Graphs.{Reach, here, OnEdge, OnIsland}
 use Rattle.rounds.specs.Duals.{Moved}
 use Rattle.rounds.proofs.Moving.{moved_append, dual_has}
@@ -28,13 +28,12 @@ bring-mid-requires c = record {
 }
 
 pub carry-requires : goal.carry-requires
-carry-requires c = record {
-  range = (c.bring-mid.ensures.wrote.forward, omega (arith, c.bring-mid.ensures.wrote.few));
-  places = each_map (TwoPlaces (length c.args.adj.now)) (TwoPlaces 64) (two_places_more (length c.args.adj.now) 64 c.requires.small)
-      (gates_in c.bring-mid.new.out c.args.at c.bring-mid.result) c.bring-mid.ensures.two_places;
-}
+unfolding gates_in
+carry-requires c = each_map (TwoPlaces (length c.args.adj.now)) (TwoPlaces 64) (two_places_more (length c.args.adj.now) 64 c.requires.small)
+    (gates_in c.bring-mid.new.out c.args.at c.bring-mid.result) c.bring-mid.ensures.two_places
 
 pub bring-end-requires : goal.bring-end-requires
+unfolding gates_in
 bring-end-requires c =
     let r = c.args.r in
     let y = get_or c.carry.new.reversed c.args.w 0 in
@@ -53,20 +52,17 @@ bring-end-requires c =
     }
 
 pub carry-requires-2 : goal.carry-requires-2
-carry-requires-2 c = record {
-  range = (c.bring-end.ensures.wrote.forward, omega (arith, c.bring-mid.ensures.wrote.few, c.bring-end.ensures.wrote.few));
-  places = each_map (TwoPlaces (length c.args.adj.now)) (TwoPlaces 64) (two_places_more (length c.args.adj.now) 64 c.requires.small)
-      (gates_in c.bring-end.new.out c.bring-mid.result c.bring-end.result) c.bring-end.ensures.two_places;
-}
+unfolding gates_in
+carry-requires-2 c = each_map (TwoPlaces (length c.args.adj.now)) (TwoPlaces 64) (two_places_more (length c.args.adj.now) 64 c.requires.small)
+    (gates_in c.bring-end.new.out c.bring-mid.result c.bring-end.result) c.bring-end.ensures.two_places
 
 pub turn-requires : goal.turn-requires
-turn-requires c = record {
-  range = (c.bring-end.ensures.wrote.forward, omega (arith, c.bring-mid.ensures.wrote.few, c.bring-end.ensures.wrote.few));
-  places = each_map (TwoPlaces (length c.args.adj.now)) (TwoPlaces 64) (two_places_more (length c.args.adj.now) 64 c.requires.small)
-      (gates_in c.bring-end.new.out c.bring-mid.result c.bring-end.result) c.bring-end.ensures.two_places;
-}
+unfolding gates_in
+turn-requires c = each_map (TwoPlaces (length c.args.adj.now)) (TwoPlaces 64) (two_places_more (length c.args.adj.now) 64 c.requires.small)
+    (gates_in c.bring-end.new.out c.bring-mid.result c.bring-end.result) c.bring-end.ensures.two_places
 
 pub returns : goal.returns
+unfolding gates_in
 returns c =
     let adj = c.args.adj.now in
     let n = length adj in
@@ -79,7 +75,8 @@ returns c =
     let out0 = c.args.out.now in
     let out1 = c.bring-mid.new.out in
     let out2 = c.bring-end.new.out in
-    let out3 = c.turn.new.out in
+    let es = c.turn.new.entries in
+    let out3 = take mid out2 ++ (es ++ drop (end - mid) (drop mid out2)) in
     let b1 = c.bring-mid.ensures in
     let b2 = c.bring-end.ensures in
     let f1 : at ≤ mid = b1.wrote.forward in
@@ -96,12 +93,15 @@ returns c =
     let A2 = c.carry-2.new.reversed in
     let B2 = c.carry-2.new.straight in
     let ml : mid ≤ length out1 = omega arith in
-    let front : take mid out3 ≡ take mid out1 = c.turn.ensures.front ∙ b2.wrote.front in
+    let el : end ≤ length out2 = omega arith in
+    let long : length es ≡ end - mid = omega arith in
+    let turns : gates_in out3 mid end ≡ turned hs = put_gates out2 es mid end f2 el long ∙ c.turn.ensures in
+    let front : take mid out3 ≡ take mid out1 = put_front out2 es mid end f2 el long ∙ b2.wrote.front in
     let all : gates_in out3 at end ≡ gs ++ turned hs =
-    gates_in_append out1 out3 at mid end f1 f2 ml front ∙ ap (λ (ks : List Gate). gs ++ ks) c.turn.ensures.turned in
+    gates_in_append out1 out3 at mid end f1 f2 ml front ∙ ap (λ (ks : List Gate). gs ++ ks) turns in
     let each : (P : Gate → Type 0) → ((g : Gate) → P g → P (g.1, g.0)) → Each P gs → Each P hs → Each P (gates_in out3 at end) =
     λ P f a b. each_more P out1 out3 at mid end f1 f2 ml front a
-    (subst (Each P) (sym c.turn.ensures.turned) (each_turned P P f hs b)) in
+    (subst (Each P) (sym turns) (each_turned P P f hs b)) in
     let has : bit (get_or B1 w 0) r ≡ 1 =
     dual_has n gs A B B1 w r b1.two_places c.carry.ensures.moved_turned b1.brought c.requires.paired in
     let y = get_or B1 w 0 in
@@ -111,7 +111,7 @@ returns c =
           forward = omega arith;
           few = omega arith;
           front = front_kept out1 out3 at mid f1 front ∙ b1.wrote.front;
-          back = c.turn.ensures.back ∙ b2.wrote.back ∙ back_kept out0 out1 mid end f2 b1.wrote.back;
+          back = put_back out2 es mid end f2 el long ∙ b2.wrote.back ∙ back_kept out0 out1 mid end f2 b1.wrote.back;
         };
         on_edges = each (OnEdge adj) (λ g e. elim e [ inl a ↦ inr a | inr a ↦ inl a ]) b1.on_edges b2.on_edges;
         two_places = each (TwoPlaces n) (λ g f. record { apart = λ e. f.apart (sym e); from = f.to; to = f.from }) b1.two_places b2.two_places;
