@@ -1,9 +1,9 @@
 // Whether a machine is new: fresh words, and every coupler in service.
 #![tactic(auto)]
 
-ghost use Rattle.std.specs.Prelude.{◌≡◌, ◌<◌, true, false, length, replicate, ◌≢◌, slice_index, slice_index_or};
+ghost use Rattle.std.specs.Prelude.{◌≡◌, ℕ, ◌^◌, ◌<◌, true, false, length, replicate, ◌≢◌, slice_index, slice_index_or};
 ghost use Rattle.parity.specs.Words.{fresh};
-ghost use Rattle.newness.specs.New.{NewMachine};
+ghost use Rattle.newness.specs.New.{NewMachine, InService};
 
 use chip::Chip;
 use machine::Machine;
@@ -19,46 +19,30 @@ pub fn is_new<M: Machine>(machine: &M) -> bool
 
 // Whether place q carries bit q alone, for each q.
 fn has_fresh_words<M: Machine>(machine: &M) -> bool
-    ensures yes { result ≡ true → (M.Machine.meaning machine.now).words ≡ fresh (M.Chip.layout machine.now).places }
-    ensures no { result ≡ false → (M.Machine.meaning machine.now).words ≢ fresh (M.Chip.layout machine.now).places }
+    ensures yes { result ≡ true → (q : ℕ) → q < (M.Chip.layout machine.now).places → slice_index (M.Machine.meaning machine.now).words q ≡ 2 ^ q }
+    ensures no { result ≡ false → (q : ℕ) × (q < (M.Chip.layout machine.now).places) × (slice_index (M.Machine.meaning machine.now).words q ≢ 2 ^ q) }
 {
-    for q in 0..machine.width() {
-        if word_at(machine, q) != single(q) {
-            return false;
-        }
-    }
-    true
+    (0..machine.width()).all(|q| has_fresh_word(machine, q))
 }
 
-fn word_at<M: Machine>(machine: &M, q: usize) -> u64
-    requires { q < (M.Chip.layout machine.now).places }
-    ensures { result ≡ slice_index (M.Machine.meaning machine.now).words q }
+fn has_fresh_word<M: Machine>(machine: &M, q: usize) -> bool
+    ensures yes { result ≡ true → q < (M.Chip.layout machine.now).places → slice_index (M.Machine.meaning machine.now).words q ≡ 2 ^ q }
+    ensures no { result ≡ false → q < (M.Chip.layout machine.now).places → slice_index (M.Machine.meaning machine.now).words q ≢ 2 ^ q }
 {
-    match machine.word(q) {
-        Ok(word) => word,
-        Err(_) => unreachable(),
-    }
+    machine.word(q) == Ok(single(q))
 }
 
 // Whether every coupler is in service.
 fn has_all_in_service<M: Machine>(machine: &M) -> bool
-    ensures yes { result ≡ true → (M.Machine.meaning machine.now).service ≡ replicate (length (M.Chip.layout machine.now).couplers) true }
-    ensures no { result ≡ false → (M.Machine.meaning machine.now).service ≢ replicate (length (M.Chip.layout machine.now).couplers) true }
+    ensures yes { result ≡ true → (k : ℕ) → k < length (M.Chip.layout machine.now).couplers → InService (M.Machine.meaning machine.now) k }
+    ensures no { result ≡ false → (k : ℕ) × (k < length (M.Chip.layout machine.now).couplers) × (InService (M.Machine.meaning machine.now) k → ⊥) }
 {
-    for k in 0..machine.couplers() {
-        if !serves_at(machine, k) {
-            return false;
-        }
-    }
-    true
+    (0..machine.couplers()).all(|k| is_in_service(machine, k))
 }
 
-fn serves_at<M: Machine>(machine: &M, k: usize) -> bool
-    requires { k < length (M.Chip.layout machine.now).couplers }
-    ensures { result ≡ slice_index_or (M.Machine.meaning machine.now).service k false }
+fn is_in_service<M: Machine>(machine: &M, k: usize) -> bool
+    ensures yes { result ≡ true → k < length (M.Chip.layout machine.now).couplers → InService (M.Machine.meaning machine.now) k }
+    ensures no { result ≡ false → k < length (M.Chip.layout machine.now).couplers → InService (M.Machine.meaning machine.now) k → ⊥ }
 {
-    match machine.serves(k) {
-        Ok(on) => on,
-        Err(_) => unreachable(),
-    }
+    machine.serves(k) == Ok(true)
 }

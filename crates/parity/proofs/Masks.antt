@@ -92,17 +92,6 @@ bit_not (suc n) x (suc q) h b =
     ∙ bit_not n (x / 2) q (half_below n x h) (le_of_suc-le-suc b)
     ∙ ap (λ (d : ℕ). 1 - d) (sym (bit_suc x q))
 
-pub without_in : (n x y q : ℕ) → x < 2 ^ n → y < 2 ^ n → bit x q ≡ 1 → bit y q ≡ 0 → bit (bit_and x (2 ^ n - 1 - y)) q ≡ 1
-without_in n x y q hx hy o z =
-    and_in x (2 ^ n - 1 - y) q o (bit_not n y q hy (place_below n x q hx o) ∙ ap (λ (d : ℕ). 1 - d) z)
-
-pub without_parts : (n x y q : ℕ) → x < 2 ^ n → y < 2 ^ n → bit (bit_and x (2 ^ n - 1 - y)) q ≡ 1 → (bit x q ≡ 1) × (bit y q ≡ 0)
-without_parts n x y q hx hy o =
-    let p = and_parts x (2 ^ n - 1 - y) q o in
-    let e : bit (2 ^ n - 1 - y) q ≡ 1 - bit y q = bit_not n y q hy (place_below n x q hx p.0) in
-    let f : bit (2 ^ n - 1 - y) q ≡ 1 = p.1 in
-    (p.0, omega arith)
-
 -- what is in the complement is not in the set
 pub others_only : (n y q : ℕ) → y < 2 ^ n → bit (2 ^ n - 1 - y) q ≡ 1 → bit y q ≡ 0
 others_only n y q h o =

@@ -28,10 +28,6 @@ pub fresh_from : (ws : List ℕ) (n : ℕ) → length ws ≡ n → ((q : ℕ) �
 unfolding fresh
 fresh_from ws n len each = fill_by_all (λ (q : ℕ). 2 ^ q) ws n 0 len each
 
-pub fresh_more : (ws : List ℕ) (q : ℕ) → length ws ≡ 64 → q < 64 → ((k : ℕ) → k < q → get_or ws k 0 ≡ 2 ^ k)
-    → (k : ℕ) → k < q + 1 → get_or (set ws q ((1 * 2 ^ q) % 2 ^ 64)) k 0 ≡ 2 ^ k
-fresh_more ws q len below so_far = rw (one_shl q 64 below) (fill_by_more (λ (k : ℕ). 2 ^ k) ws q 0 (omega arith) so_far)
-
 -- ---- words stay below 2 ^ n
 
 -- each word of ws is below 2 ^ n

@@ -96,9 +96,3 @@ module _ (n : ℕ) (at : List ℕ) (p : Placement n at) where
       let place : (w : ℕ) → bit x w ≡ 1 → s.0 ≡ get_or at w 0 =
       λ w i. place_is s.0 (get_or at w 0) (ap (λ (y : ℕ). bit y (get_or at w 0)) (sym s.1) ∙ at_place x w (place_below n x w hx i) ∙ i) in
       ap ones (only_place x r.0 some (λ q i. p.apart r.0 q (place_below n x r.0 hx r.1) (place_below n x q hx i) (sym (place r.0 r.1) ∙ place q i))) ∙ ones_pow r.0
-
-  -- a word with a wire has a place
-  pub some_carried : (x : ℕ) → x < 2 ^ n → x ≢ 0 → wires_to_places at x ≢ 0
-  some_carried x hx ne =
-      let w = some_place x ne in
-      bit_some (wires_to_places at x) (get_or at w.0 0) (at_place x w.0 (place_below n x w.0 hx w.1) ∙ w.1)

@@ -16,9 +16,8 @@ impl Adjacency {
         let n = machine.width();
         let mut rows = [0; 64];
         for k in 0..machine.couplers() {
-            match serving(machine, k) {
-                Some((left, right)) => join(&mut rows, left, right),
-                None => {}
+            if let Some((left, right)) = serving(machine, k) {
+                join(&mut rows, left, right);
             }
         }
         Adjacency { rows, n }
@@ -36,13 +35,9 @@ impl Adjacency {
 fn serving<M: Machine>(machine: &M, k: usize) -> Option<(usize, usize)>
     ensures { k < length (M.Chip.layout machine.now).couplers → result ≡ serving_ends (M.Chip.layout machine.now) (M.Machine.meaning machine.now).service k }
 {
-    let Ok(on) = machine.serves(k) else {
-        return None;
-    };
-    let Ok(ends) = machine.ends(k) else {
-        return None;
-    };
-    if on { Some(ends) } else { None }
+    let on = machine.serves(k).ok()?;
+    let ends = machine.ends(k).ok()?;
+    on.then_some(ends)
 }
 
 // Makes a and b neighbours.

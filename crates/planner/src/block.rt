@@ -91,7 +91,5 @@ fn exchange(words: &mut [u64; 64], a: usize, b: usize)
     requires { (a < 64) × (b < 64) }
     ensures { words.new ≡ traded a b words.old }
 {
-    let word = words[a];
-    words[a] = words[b];
-    words[b] = word;
+    words.swap(a, b);
 }

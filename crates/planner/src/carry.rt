@@ -28,8 +28,8 @@ pub(crate) fn carry_to_places(words: &[u64], at: &[usize], sets: &mut [u64])
     requires places { (((w : ℕ) → w < length at.now → slice_index at.now w < 64)) × (length at.now ≤ 64) }
     ensures { sets.new ≡ map (wires_to_places at.now) words.now }
 {
-    for w in 0..words.len() {
-        sets[w] = places_of_wires(words[w], at);
+    for (w, word) in words.iter().enumerate() {
+        sets[w] = places_of_wires(*word, at);
     }
 }
 
@@ -39,20 +39,22 @@ fn places_of_wires(x: u64, at: &[usize]) -> u64
     ensures { result ≡ wires_to_places at.now x }
 {
     let mut set = 0;
-    for w in 0..at.len() {
+    for (w, place) in at.iter().enumerate() {
         if has(x, w) {
-            set = flip(set, at[w]);
+            set = flip(set, *place);
         }
     }
     set
 }
 
-// Writes the lowest place of each set.
+// Writes the lowest place of each set; an empty one has none.
 pub(crate) fn lowest_of_each(sets: &[u64], at: &mut [usize])
     requires { length sets.now ≤ length at.old }
     ensures { Lowest sets.now at.new }
 {
-    for w in 0..sets.len() {
-        at[w] = lowest(sets[w]);
+    for (w, set) in sets.iter().enumerate() {
+        if let Some(q) = lowest(*set) {
+            at[w] = q;
+        }
     }
 }

@@ -3,6 +3,7 @@ ghost use Rattle.std.specs.Prelude.{◌≡◌, ℕ, ◌<◌, ◌≤◌, Some, No
 ghost use Rattle.planner.specs.Views.{places_of};
 
 use crate::store::Places;
+use std::array;
 
 impl Places {
     // Each of n wires at the place of its own number; None unless 1 <= n <= 64.
@@ -38,9 +39,5 @@ impl Places {
 fn own_numbers() -> [usize; 64]
     ensures { (w : ℕ) → w < 64 → slice_index result w ≡ w }
 {
-    let mut at = [0; 64];
-    for w in 0..64 {
-        at[w] = w;
-    }
-    at
+    array::from_fn(|w| w)
 }

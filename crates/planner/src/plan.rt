@@ -40,7 +40,7 @@ pub fn plan(
     ensures refused_untouched { (f : PlanFault) → result ≡ Err f → out.new ≡ out.old }
 {
     let n = adjacency.n;
-    if !one_size(n, block.n, places.n) {
+    if block.n != n || places.n != n {
         return Err(PlanFault::SizeMismatch);
     }
     let needed = 2 * (n * (n - 1));
@@ -50,7 +50,7 @@ pub fn plan(
     let mut wanted = [0; 64];
     let mut against = [0; 64];
     let mut at = [0; 64];
-    match plan_lists(
+    let Some(gates) = plan_lists(
         &adjacency.rows[..n],
         &block.words[..block.n],
         &block.duals[..block.n],
@@ -59,13 +59,11 @@ pub fn plan(
         &mut against[..n],
         &mut at,
         out,
-    ) {
-        Some(gates) => Ok(Planned {
-            gates,
-            places: Places { at, n },
-        }),
-        None => Err(PlanFault::Unreachable),
-    }
+    ) else {
+        return Err(PlanFault::Unreachable);
+    };
+    let places = Places { at, n };
+    Ok(Planned { gates, places })
 }
 
 // The same for a machine, in words of its couplers in service as they are now.
@@ -82,35 +80,7 @@ pub fn plan_on<M: Machine>(
     ensures mismatch_exactly { (result ≡ Err SizeMismatch) ↔ (SizesAre (M.Chip.layout machine.now).places block.now places.now → ⊥) }
     ensures refused_untouched { (f : PlanFault) → result ≡ Err f → out.new ≡ out.old }
 {
-    let adjacency = Adjacency::of(machine);
-    plan_over(machine, &adjacency, block, places, out)
-}
-
-// The same over an adjacency that shows the machine.
-fn plan_over<M: Machine>(
-    machine: &M,
-    adjacency: &Adjacency,
-    block: &Block,
-    places: &Places,
-    out: &mut [u16],
-) -> Result<Planned, PlanFault>
-    requires shows { Shows (M.Chip.layout machine.now) (M.Machine.meaning machine.now).service (neighbours_of adjacency.now) }
-    ensures planned { (p : Planned) → result ≡ Ok p → (p.places.n ≡ (M.Chip.layout machine.now).places) × PlanIn (OnCoupler (M.Chip.layout machine.now) (M.Machine.meaning machine.now).service) (M.Chip.layout machine.now).places (words_of block.now) (places_of places.now) out.old out.new p.gates (places_of p.places) }
-    ensures unreachable_exactly { (result ≡ Err Unreachable) ↔ (SizesAre (M.Chip.layout machine.now).places block.now places.now × (room (M.Chip.layout machine.now).places ≤ length out.old) × NoPlan (OnCoupler (M.Chip.layout machine.now) (M.Machine.meaning machine.now).service) (M.Chip.layout machine.now).places (words_of block.now) (places_of places.now)) }
-    ensures needs_two_islands { result ≡ Err Unreachable → SomeOnTwo (M.Chip.layout machine.now) (M.Machine.meaning machine.now).service (words_of block.now) (places_of places.now) }
-    ensures short_exactly { (needed : ℕ) → (result ≡ Err (BufferTooShort needed)) ↔ (SizesAre (M.Chip.layout machine.now).places block.now places.now × (length out.old < room (M.Chip.layout machine.now).places) × (needed ≡ room (M.Chip.layout machine.now).places)) }
-    ensures mismatch_exactly { (result ≡ Err SizeMismatch) ↔ (SizesAre (M.Chip.layout machine.now).places block.now places.now → ⊥) }
-    ensures refused_untouched { (f : PlanFault) → result ≡ Err f → out.new ≡ out.old }
-{
-    plan(adjacency, block, places, out)
-}
-
-// Whether three sizes are one.
-pub(crate) fn one_size(a: usize, b: usize, c: usize) -> bool
-    ensures yes { result ≡ true → (b ≡ a) × (c ≡ a) }
-    ensures no { (b ≡ a) × (c ≡ a) → result ≡ true }
-{
-    b == a && c == a
+    plan(&Adjacency::of(machine), block, places, out)
 }
 
 // The plan as lists: for the words, dual words and places of n wires, with room for the wanted sets and their duals.
@@ -139,11 +109,7 @@ fn plan_lists(
     ensures untouched { result ≡ None → out.new ≡ out.old }
 {
     carry_both(words, duals, old, wanted, against);
-    match rounds::plan(adj, wanted, against, out) {
-        Some(gates) => {
-            lowest_of_each(wanted, new);
-            Some(gates)
-        }
-        None => None,
-    }
+    let gates = rounds::plan(adj, wanted, against, out)?;
+    lowest_of_each(wanted, new);
+    Some(gates)
 }

@@ -9,7 +9,6 @@ ghost use Rattle.planner.specs.Reasons.{FirstOnTwo};
 ghost use Rattle.planner.specs.Views.{neighbours_of, words_of, places_of, SizesAre};
 
 use crate::carry::carry_to_places;
-use crate::plan::one_size;
 use crate::store::{Adjacency, Block, Places};
 use chip::Chip;
 use machine::Machine;
@@ -25,22 +24,8 @@ pub fn first_on_two_islands<M: Machine>(
     ensures none { result ≡ None → SizesAre (M.Chip.layout machine.now).places block.now places.now → (w : ℕ) → w < (M.Chip.layout machine.now).places → OnOneIsland (M.Chip.layout machine.now) (M.Machine.meaning machine.now).service (wires_to_places (places_of places.now) (slice_index (words_of block.now) w)) }
 {
     let adjacency = Adjacency::of(machine);
-    first_over(machine, &adjacency, block, places)
-}
-
-// The same over an adjacency that shows the machine.
-fn first_over<M: Machine>(
-    machine: &M,
-    adjacency: &Adjacency,
-    block: &Block,
-    places: &Places,
-) -> Option<usize>
-    requires shows { Shows (M.Chip.layout machine.now) (M.Machine.meaning machine.now).service (neighbours_of adjacency.now) }
-    ensures first { (w : ℕ) → result ≡ Some w → FirstOnTwo (M.Chip.layout machine.now) (M.Machine.meaning machine.now).service (words_of block.now) (places_of places.now) w }
-    ensures none { result ≡ None → SizesAre (M.Chip.layout machine.now).places block.now places.now → (w : ℕ) → w < (M.Chip.layout machine.now).places → OnOneIsland (M.Chip.layout machine.now) (M.Machine.meaning machine.now).service (wires_to_places (places_of places.now) (slice_index (words_of block.now) w)) }
-{
     let n = adjacency.n;
-    if !one_size(n, block.n, places.n) {
+    if block.n != n || places.n != n {
         return None;
     }
     let mut wanted = [0; 64];
@@ -58,7 +43,6 @@ fn first_in_lists(adj: &[u64], words: &[u64], at: &[usize], wanted: &mut [u64]) 
     requires graph { Graph adj.now }
     requires lengths { (length words.now ≡ length adj.now) × (length wanted.old ≡ length adj.now) }
     requires below { (w : ℕ) → w < length adj.now → slice_index words.now w < 2 ^ length adj.now }
-    requires some { (w : ℕ) → w < length adj.now → slice_index words.now w ≢ 0 }
     requires placed { Placement (length adj.now) at.now }
     ensures first { (w : ℕ) → result ≡ Some w → FirstStraddling adj.now (map (wires_to_places at.now) words.now) w }
     ensures none { result ≡ None → (w : ℕ) → w < length adj.now → OneIsland adj.now (slice_index (map (wires_to_places at.now) words.now) w) }

@@ -1,19 +1,13 @@
-use Rattle.std.proofs.Common.{◌≡◌, ℕ, length, arith}
-use Rattle.newness.proofs.Newness.{all_true, not_all_true}
+use Rattle.std.proofs.Common.{ℕ, ◌<◌, length, refl, arith, rules}
+use Rattle.std.proofs.lemmas.Iterator.{cases_from_all, YieldsList-from_range}
+use Rattle.newness.specs.New.{InService}
+use Rattle.newness.proofs.Newness.{all_below}
 use Rattle.newness.proofs.has_all_in_service.Goals as goal
 
-pub returns-then-not-serves_at : goal.returns-then-not-serves_at
-returns-then-not-serves_at g c =
-    record {
-      yes = λ e. let z : ◌≡◌ {A = ℕ} 0 1 = cc in absurd (omega arith);
-      no = λ _. not_all_true (g.M.Machine.meaning c.args.machine.now).service (length (g.M.Chip.layout c.args.machine.now).couplers) c.loop-k.k (omega arith)
-          c.if-not-serves_at.ensures;
-    }
-
-pub returns : goal.returns
-returns g c =
-    record {
-      yes = λ _. all_true (g.M.Machine.meaning c.args.machine.now).service (length (g.M.Chip.layout c.args.machine.now).couplers)
-          (g.met.M.Machine.fitting c.args.machine.now).one_mark_each (λ j h. c.loop-k.invariant j (omega arith));
-      no = λ e. let z : ◌≡◌ {A = ℕ} 0 1 = cc in absurd (omega arith);
-    }
+pub returns-clause-yes : goal.returns-clause-yes
+returns-clause-yes g c e k h =
+    let m = length (g.M.Chip.layout c.args.machine.now).couplers in
+    let P = λ (j : ℕ). j < m → InService (g.M.Machine.meaning c.args.machine.now) j in
+    all_below _ _ P m e
+    (cases_from_all _ _ _ P (λ (j : ℕ). Unit {0}) c.all.ensures.ran (YieldsList-from_range 0 c.couplers.result m refl (omega (arith, c.couplers.ensures)))
+    (λ x q k. search rules) (λ x q k. tt)) k h h

@@ -14,7 +14,7 @@ plan_lists-requires c =
     let a = c.args.adjacency.now in
     let b = c.args.block.now in
     let p = c.args.places.now in
-    let s = c.if-not-one_size.ensures.yes refl in
+    let s : (c.args.block.now.n ≡ c.args.adjacency.now.n) × (c.args.places.now.n ≡ c.args.adjacency.now.n) = (c.if-block-n.false, c.if-places-n.false) in
     let l = neighbours_length a in
     let f : a.n ≤ 64 = a.few in
     let same_b : length (neighbours_of a) ≡ b.n = l ∙ sym s.0 in
@@ -32,10 +32,10 @@ plan_lists-requires c =
     }
 
 -- the plan that was found, over n in place of the length of the adjacency
-pub invariant_of-result : goal.invariant_of-result
-invariant_of-result c =
+pub invariant_of-places : goal.invariant_of-places
+invariant_of-places c =
     let a = c.args.adjacency.now in
-    let s = c.if-not-one_size.ensures.yes refl in
+    let s : (c.args.block.now.n ≡ c.args.adjacency.now.n) × (c.args.places.now.n ≡ c.args.adjacency.now.n) = (c.if-block-n.false, c.if-places-n.false) in
     let found = subst (λ (m : ℕ). PlanIn (OnEdge (neighbours_of a)) m (words_of c.args.block.now) (places_of c.args.places.now) c.args.out.now c.plan_lists.new.out c.in-Some.gates (take m c.plan_lists.new.new))
     (neighbours_length a) (c.plan_lists.ensures.planned c.in-Some.gates c.in-Some.is) in
     let new = c.plan_lists.new.new in
@@ -48,10 +48,10 @@ invariant_of-result c =
       apart = λ v w t. placed.apart v w t.0 t.1 (get_or-take a.n new v 0 t.0 ∙ t.2 ∙ sym (get_or-take a.n new w 0 t.1));
     }
 
-pub returns-in-Some : goal.returns-in-Some
-returns-in-Some c =
+pub returns : goal.returns
+returns c =
     let a = c.args.adjacency.now in
-    let s = c.if-not-one_size.ensures.yes refl in
+    let s : (c.args.block.now.n ≡ c.args.adjacency.now.n) × (c.args.places.now.n ≡ c.args.adjacency.now.n) = (c.if-block-n.false, c.if-places-n.false) in
     let enough : room a.n ≤ length c.args.out.now = c.if-out-needed.false in
     let found = subst (λ (m : ℕ). PlanIn (OnEdge (neighbours_of a)) m (words_of c.args.block.now) (places_of c.args.places.now) c.args.out.now c.plan_lists.new.out c.in-Some.gates (take m c.plan_lists.new.new))
     (neighbours_length a) (c.plan_lists.ensures.planned c.in-Some.gates c.in-Some.is) in
@@ -68,18 +68,18 @@ returns-in-Some c =
       refused_untouched = λ f e. absurd (let z : ◌≡◌ {A = ℕ} 0 1 = cc in omega arith);
     }
 
-pub returns-in-None : goal.returns-in-None
-returns-in-None c =
+pub returns-in_default : goal.returns-in_default
+returns-in_default c =
     let a = c.args.adjacency.now in
-    let s = c.if-not-one_size.ensures.yes refl in
+    let s : (c.args.block.now.n ≡ c.args.adjacency.now.n) × (c.args.places.now.n ≡ c.args.adjacency.now.n) = (c.if-block-n.false, c.if-places-n.false) in
     let enough : room a.n ≤ length c.args.out.now = c.if-out-needed.false in
     let none = subst (λ (m : ℕ). NoPlan (OnEdge (neighbours_of a)) m (words_of c.args.block.now) (places_of c.args.places.now))
-    (neighbours_length a) (c.plan_lists.ensures.unreachable c.in-None.is) in
+    (neighbours_length a) (c.plan_lists.ensures.unreachable c.in_default.is) in
     record {
       planned = λ p e. absurd (let z : ◌≡◌ {A = ℕ} 0 1 = cc in omega arith);
       unreachable_exactly = ((λ _. ((s.0, s.1), enough, none)), (λ _. refl));
-      needs_two_islands = λ _. c.plan_lists.ensures.needs_two_islands c.in-None.is;
+      needs_two_islands = λ _. c.plan_lists.ensures.needs_two_islands c.in_default.is;
       short_exactly = λ needed. ((λ e. absurd (let z : ◌≡◌ {A = ℕ} 0 1 = cc in omega arith)), (λ t. absurd (let h = t.1 in omega arith)));
       mismatch_exactly = ((λ e. absurd (let z : ◌≡◌ {A = ℕ} 0 1 = cc in omega arith)), (λ no. absurd (no (s.0, s.1))));
-      refused_untouched = λ f e. c.plan_lists.ensures.untouched c.in-None.is;
+      refused_untouched = λ f e. c.plan_lists.ensures.untouched c.in_default.is;
     }

@@ -28,17 +28,17 @@ plan-requires c =
       room = c.requires.room.0;
     }
 
-pub returns-in-Some : goal.returns-in-Some
-returns-in-Some c =
+pub returns : goal.returns
+returns c =
     let adj = c.args.adj.now in
     let n = length adj in
     let ws = c.args.words.now in
     let old = c.args.old.now in
     let ys = c.plan.new.wanted in
     let e = c.carry_both.ensures.wanted in
-    let k = c.in-Some.gates in
+    let k = c.in_ok-gates.gates in
     let pl = subst (λ (xs : List ℕ). Planned adj xs ys c.carry_both.new.against c.plan.new.duals c.args.out.now c.plan.new.out k) e
-    (c.plan.ensures.planned k c.in-Some.is) in
+    (c.plan.ensures.planned k c.in_ok-gates.was) in
     let leny : length ys ≡ n = c.plan.auto.wanted ∙ ap length e ∙ length-map ws (wires_to_places old) ∙ c.requires.lengths.0 in
     let found = planned_in n ws old c.requires.placed c.requires.below adj ys c.carry_both.new.against c.plan.new.duals c.args.out.now c.plan.new.out c.lowest_of_each.new.at k
     refl c.requires.small leny pl c.lowest_of_each.ensures in
@@ -50,14 +50,14 @@ returns-in-Some c =
       untouched = λ z. absurd (let q : ◌≡◌ {A = ℕ} 0 1 = cc in omega arith);
     }
 
-pub returns-in-None : goal.returns-in-None
-returns-in-None c =
+pub returns-in_err-gates : goal.returns-in_err-gates
+returns-in_err-gates c =
     let adj = c.args.adj.now in
     let e = c.carry_both.ensures.wanted in
-    let refused = subst (Refused adj) e (c.plan.ensures.refused c.in-None.is) in
+    let refused = subst (Refused adj) e (c.plan.ensures.refused c.in_err-gates.was) in
     record {
       planned = λ j z. absurd (let q : ◌≡◌ {A = ℕ} 0 1 = cc in omega arith);
       unreachable = λ _. refused_none (length adj) c.args.words.now c.args.old.now c.requires.placed c.requires.below adj c.requires.graph refl refused;
       needs_two_islands = λ _. refused_some (length adj) c.args.words.now c.args.old.now c.requires.placed c.requires.below adj refused;
-      untouched = λ _. (c.plan.ensures.nothing_touched c.in-None.is).2;
+      untouched = λ _. (c.plan.ensures.nothing_touched c.in_err-gates.was).2;
     }

@@ -18,10 +18,6 @@ first_straddling-requires c =
       small = c.requires.small;
       graph = c.requires.graph;
       below = λ w. subst (λ (l : List ℕ). get_or l w 0 < 2 ^ n) (sym e) (wanted_below n ws at c.requires.placed c.requires.below w);
-      some = λ w h.
-          let hn : w < n = omega arith in
-          subst (λ (l : List ℕ). get_or l w 0 ≢ 0) (sym e)
-          (subst (λ (x : ℕ). x ≢ 0) (sym (wanted_at n ws at c.requires.placed c.requires.below w)) (some_carried n at c.requires.placed (get_or ws w 0) (c.requires.below w hn) (c.requires.some w hn)));
     }
 
 pub returns : goal.returns

@@ -30,8 +30,8 @@ loop-k-preserved g c =
     elim c.match-serving.branch [
       | goal.in-Some w ↦ subst (λ (rows : List ℕ). Rows l service rows (k + 1)) (sym w.rows-is)
           (rows_joined l service c.loop-k.rows w.join.new.rows k w.in-Some.left w.in-Some.right h (w.in-Some.ensures h) c.loop-k.invariant w.join.ensures)
-      | goal.in-None w ↦ subst (λ (rows : List ℕ). Rows l service rows (k + 1)) (sym w.rows-is)
-          (rows_skipped l service c.loop-k.rows k (w.in-None.ensures h) c.loop-k.invariant)
+      | goal.in_default w ↦ subst (λ (rows : List ℕ). Rows l service rows (k + 1)) (sym w.rows-is)
+          (rows_skipped l service c.loop-k.rows k (w.in_default.ensures h) c.loop-k.invariant)
     ]
 
 pub invariant_of-result : goal.invariant_of-result

@@ -8,23 +8,14 @@ use Rattle.planner.specs.Views.{neighbours_of, words_of, duals_of, places_of}
 use Rattle.planner.proofs.Asking.{neighbours_length, neighbours_graph, words_length, words_below, block_paired, places_placement, first_of_64}
 use Rattle.planner.proofs.Planning.{wanted_at}
 use Rattle.planner.proofs.Couplers.{straddles_over, one_island_over}
-use Rattle.planner.proofs.reason.first_over.Goals as goal
-
-pub returns-then-not-one_size : goal.returns-then-not-one_size
-returns-then-not-one_size g c =
-    let a = c.args.adjacency.now in
-    let same : a.n ≡ (g.M.Chip.layout c.args.machine.now).places = sym (neighbours_length a) ∙ c.requires.shows.places in
-    record {
-      first = λ w z. absurd (let q : ◌≡◌ {A = ℕ} 0 1 = cc in omega arith);
-      none = λ _ t. absurd (both_ways c.one_size.result c.if-not-one_size.true (c.one_size.ensures.no (t.0 ∙ sym same, t.1 ∙ sym same)));
-    }
+use Rattle.planner.proofs.reason.first_on_two_islands.Goals as goal
 
 pub first_in_lists-requires : goal.first_in_lists-requires
 first_in_lists-requires g c =
-    let a = c.args.adjacency.now in
+    let a = c.of-adjacency.result in
     let b = c.args.block.now in
     let p = c.args.places.now in
-    let s = c.if-not-one_size.ensures.yes refl in
+    let s : (c.args.block.now.n ≡ c.of-adjacency.result.n) × (c.args.places.now.n ≡ c.of-adjacency.result.n) = (c.if-block-n.false, c.if-places-n.false) in
     let l = neighbours_length a in
     let f : a.n ≤ 64 = a.few in
     let same_b : length (neighbours_of a) ≡ b.n = l ∙ sym s.0 in
@@ -34,7 +25,6 @@ first_in_lists-requires g c =
       graph = neighbours_graph a;
       lengths = (words_length b ∙ sym same_b, first_of_64 a.n (replicate 64 0) refl f ∙ sym l);
       below = subst (λ (m : ℕ). (w : ℕ) → w < m → get_or (words_of b) w 0 < 2 ^ m) (sym same_b) (words_below b);
-      some = λ w h. dot_some (get_or (words_of b) w 0) (get_or (duals_of b) w 0) ((block_paired b).own w (subst (λ (m : ℕ). w < m) same_b h));
       placed = subst (λ (m : ℕ). Placement m (places_of p)) (sym same_p) (places_placement p);
     }
 
@@ -42,12 +32,12 @@ pub returns : goal.returns
 returns g c =
     let l = g.M.Chip.layout c.args.machine.now in
     let service = (g.M.Machine.meaning c.args.machine.now).service in
-    let a = c.args.adjacency.now in
+    let a = c.of-adjacency.result in
     let b = c.args.block.now in
     let p = c.args.places.now in
     let adj = neighbours_of a in
-    let shows = c.requires.shows in
-    let s = c.if-not-one_size.ensures.yes refl in
+    let shows = c.of-adjacency.ensures in
+    let s : (c.args.block.now.n ≡ c.of-adjacency.result.n) × (c.args.places.now.n ≡ c.of-adjacency.result.n) = (c.if-block-n.false, c.if-places-n.false) in
     let same : length (map (wires_to_places (places_of p)) (words_of b)) ≡ l.places =
     length-map (words_of b) (wires_to_places (places_of p)) ∙ words_length b ∙ s.0 ∙ sym (neighbours_length a) ∙ shows.places in
     let at : (w : ℕ) → get_or (map (wires_to_places (places_of p)) (words_of b)) w 0 ≡ wires_to_places (places_of p) (get_or (words_of b) w 0) =
