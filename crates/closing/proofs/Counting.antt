@@ -11,7 +11,7 @@ use Rattle.runs.specs.Sheet.{tally, if_obeyed, take_one, give_one, write_one, ou
 use Rattle.runs.specs.Law.{sheet_of}
 use Rattle.runs.proofs.Exact.{the_law}
 use Rattle.script.specs.declared.order.Order.{Order}
-use Rattle.script.specs.declared.order.Answer.{Answer}
+use Rattle.script.specs.Answers.{Answer}
 use Rattle.script.specs.declared.order.Turn.{Turn}
 use Rattle.script.specs.Slots.{Slots, vacant, stowed, emptied}
 use Rattle.script.specs.Turns.{Bench, Made, adds, swaps, locates, takes_out, no_slot, gives_back, none_to_give, writes_off, none_to_write, flushes, Turns, over, next}

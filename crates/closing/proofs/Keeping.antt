@@ -20,7 +20,7 @@ use Rattle.session.specs.Outages.{is_in, is_out, recorded, take_fault, end_fault
 use Rattle.session.specs.Flushes.{Flush, other_size, short, unreachable, too_many, plays}
 use Rattle.runs.specs.Runs.{Event}
 use Rattle.script.specs.declared.order.Order.{Order}
-use Rattle.script.specs.declared.order.Answer.{Answer}
+use Rattle.script.specs.Answers.{Answer}
 use Rattle.script.specs.declared.order.Turn.{Turn}
 use Rattle.script.specs.Slots.{Slots, vacant, stowed, emptied}
 use Rattle.script.specs.Turns.{Bench, Made, adds, swaps, locates, takes_out, no_slot, gives_back, none_to_give, writes_off, none_to_write, flushes, Turns, over, next, Ran}

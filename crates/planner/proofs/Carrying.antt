@@ -6,7 +6,7 @@ use Rattle.std.proofs.lemmas.List.{take_more, map-append, length-map, length-tak
 use Rattle.parity.specs.Sets.{bit, when, xor_over}
 use Rattle.parity.specs.Pairing.{dot}
 use Rattle.parity.specs.Placements.{Placement, wires_to_places}
-use Rattle.parity.proofs.Bits.{bit_zero, bit_suc, bit_cases, bit_some, bit_pow_same, zero_one, xor_cancel_r, place_below, place_is, flip_off, flip_cases, only_place}
+use Rattle.parity.proofs.Bits.{bit_zero, bit_suc, bit_cases, bit_pow_same, zero_one, xor_cancel_r, place_below, place_is, flip_off, flip_cases, only_place}
 use Rattle.parity.proofs.Counts.{below_all, ones_none, ones_pow, single_place, some_place}
 use Rattle.parity.proofs.Xors.{xor_over_none, xor_over_xor, xor_over_one}
 use Rattle.parity.proofs.Pairing.{dot_xor, dot_pow, dot_none}

@@ -1,5 +1,5 @@
 -- From what a call did to a turn, and from turns to a run.
-use Rattle.std.proofs.Common.{◌≡◌, ℕ, true, false, List, [], ◌∷◌, ◌++◌, Result, sym, refl, ap, ◌∙◌, subst, subst₂, append_assoc, append-nil}
+use Rattle.std.proofs.Common.{◌≡◌, ℕ, true, false, List, [], ◌∷◌, ◌++◌, Some, None, Result, sym, refl, ap, ◌∙◌, subst, subst₂, append_assoc, append-nil}
 use Rattle.chip.specs.Answers.{answered}
 use Rattle.chip.specs.Layout.{Layout}
 use Rattle.machine.specs.Meaning.{Meaning}
@@ -11,10 +11,9 @@ use Rattle.runs.specs.Runs.{Event, Step, Run, ended, then}
 use Rattle.runs.specs.Runs as runs
 use Rattle.script.specs.declared.order.Order.{Order}
 use Rattle.script.specs.declared.order.Order.TheVariants as order
-use Rattle.script.specs.declared.order.Answer.{Answer}
-use Rattle.script.specs.declared.order.Answer.TheVariants.{NotMade}
+use Rattle.script.specs.declared.order.Outcome.{Outcome}
 use Rattle.script.specs.declared.order.Turn.{Turn}
-use Rattle.script.specs.Answers.{plain, placed, counted}
+use Rattle.script.specs.Answers.{Answer, plain, placed, counted}
 use Rattle.script.specs.Slots.{Slots, vacant, filled, TakesInto, GivesFrom, WritesFrom}
 use Rattle.script.specs.Turns.{Bench, with, Made, adds, swaps, locates, takes_out, no_slot, gives_back, none_to_give, writes_off, none_to_write, flushes, Acts, Turns, over, next}
 
@@ -23,43 +22,43 @@ use Rattle.script.specs.Turns.{Bench, with, Made, adds, swaps, locates, takes_ou
 as_ordered : (b c : Bench) (o p : Order) (a d : Answer) → o ≡ p → a ≡ d → Acts b p d c → Acts b o a c
 as_ordered b c o p a d e f h = subst₂ (λ (x : Order) (y : Answer). Acts b x y c) (sym e) (sym f) h
 
-pub acts_cx : (v w : View) (l : Layout) (m : Meaning) (h : Slots) (b : List ℕ) (x y : ℕ) (o : Order) (a : Answer) (r : Result (Unit {0}) SessionFault)
-    → o ≡ order.Cx x y → a ≡ plain r → Cx v x y r w → Acts (with (beside v l m) h b) o a (with (beside w l m) h b)
-acts_cx v w l m h b x y o a r e f c = as_ordered _ _ o (order.Cx x y) a (plain r) e f (record { events = _; turn = adds v w l m h b x y r c })
+pub acts_cx : (v w : View) (l : Layout) (m : Meaning) (h : Slots) (b : List ℕ) (x y : ℕ) (o : Order) (a : Result Outcome SessionFault) (r : Result (Unit {0}) SessionFault)
+    → o ≡ order.Cx x y → a ≡ plain r → Cx v x y r w → Acts (with (beside v l m) h b) o (Some a) (with (beside w l m) h b)
+acts_cx v w l m h b x y o a r e f c = as_ordered _ _ o (order.Cx x y) (Some a) (Some (plain r)) e (ap Some f) (record { events = _; turn = adds v w l m h b x y r c })
 
-pub acts_swap : (v w : View) (l : Layout) (m : Meaning) (h : Slots) (b : List ℕ) (x y : ℕ) (o : Order) (a : Answer) (r : Result (Unit {0}) SessionFault)
-    → o ≡ order.Swap x y → a ≡ plain r → Swap v x y r w → Acts (with (beside v l m) h b) o a (with (beside w l m) h b)
-acts_swap v w l m h b x y o a r e f c = as_ordered _ _ o (order.Swap x y) a (plain r) e f (record { events = _; turn = swaps v w l m h b x y r c })
+pub acts_swap : (v w : View) (l : Layout) (m : Meaning) (h : Slots) (b : List ℕ) (x y : ℕ) (o : Order) (a : Result Outcome SessionFault) (r : Result (Unit {0}) SessionFault)
+    → o ≡ order.Swap x y → a ≡ plain r → Swap v x y r w → Acts (with (beside v l m) h b) o (Some a) (with (beside w l m) h b)
+acts_swap v w l m h b x y o a r e f c = as_ordered _ _ o (order.Swap x y) (Some a) (Some (plain r)) e (ap Some f) (record { events = _; turn = swaps v w l m h b x y r c })
 
-pub acts_place : (s : State) (h : Slots) (b : List ℕ) (w : ℕ) (o : Order) (a : Answer) (r : Result ℕ SessionFault)
-    → o ≡ order.Place w → a ≡ placed r → r ≡ answered (place_fault s.session w) (place_of s.session w) → Acts (with s h b) o a (with s h b)
+pub acts_place : (s : State) (h : Slots) (b : List ℕ) (w : ℕ) (o : Order) (a : Result Outcome SessionFault) (r : Result ℕ SessionFault)
+    → o ≡ order.Place w → a ≡ placed r → r ≡ answered (place_fault s.session w) (place_of s.session w) → Acts (with s h b) o (Some a) (with s h b)
 acts_place s h b w o a r e f c =
-    as_ordered _ _ o (order.Place w) a (placed (answered (place_fault s.session w) (place_of s.session w))) e (f ∙ ap placed c) (record { events = []; turn = locates s h b w })
+    as_ordered _ _ o (order.Place w) (Some a) (Some (placed (answered (place_fault s.session w) (place_of s.session w)))) e (ap Some (f ∙ ap placed c)) (record { events = []; turn = locates s h b w })
 
-pub acts_take : (s t : State) (h i : Slots) (b : List ℕ) (k slot : ℕ) (o : Order) (a : Answer)
-    → o ≡ order.TakeOut k slot → vacant h slot ≡ true → TakesInto s h k slot a t i → Acts (with s h b) o a (with t i b)
-acts_take s t h i b k slot o a e z c = as_ordered _ _ o (order.TakeOut k slot) a a e refl (record { events = _; turn = takes_out s t h i b k slot a z c })
+pub acts_take : (s t : State) (h i : Slots) (b : List ℕ) (k slot : ℕ) (o : Order) (a : Result Outcome SessionFault)
+    → o ≡ order.TakeOut k slot → vacant h slot ≡ true → TakesInto s h k slot a t i → Acts (with s h b) o (Some a) (with t i b)
+acts_take s t h i b k slot o a e z c = as_ordered _ _ o (order.TakeOut k slot) (Some a) (Some a) e refl (record { events = _; turn = takes_out s t h i b k slot a z c })
 
-pub acts_no_slot : (s : State) (h : Slots) (b : List ℕ) (k slot : ℕ) (o : Order) → o ≡ order.TakeOut k slot → vacant h slot ≡ false → Acts (with s h b) o NotMade (with s h b)
-acts_no_slot s h b k slot o e z = as_ordered _ _ o (order.TakeOut k slot) NotMade NotMade e refl (record { events = []; turn = no_slot s h b k slot z })
+pub acts_no_slot : (s : State) (h : Slots) (b : List ℕ) (k slot : ℕ) (o : Order) → o ≡ order.TakeOut k slot → vacant h slot ≡ false → Acts (with s h b) o None (with s h b)
+acts_no_slot s h b k slot o e z = as_ordered _ _ o (order.TakeOut k slot) None None e refl (record { events = []; turn = no_slot s h b k slot z })
 
-pub acts_give : (s t : State) (h i : Slots) (b : List ℕ) (slot : ℕ) (o : Order) (a : Answer)
-    → o ≡ order.GiveBack slot → filled h slot ≡ true → GivesFrom s h slot a t i → Acts (with s h b) o a (with t i b)
-acts_give s t h i b slot o a e z c = as_ordered _ _ o (order.GiveBack slot) a a e refl (record { events = _; turn = gives_back s t h i b slot a z c })
+pub acts_give : (s t : State) (h i : Slots) (b : List ℕ) (slot : ℕ) (o : Order) (a : Result Outcome SessionFault)
+    → o ≡ order.GiveBack slot → filled h slot ≡ true → GivesFrom s h slot a t i → Acts (with s h b) o (Some a) (with t i b)
+acts_give s t h i b slot o a e z c = as_ordered _ _ o (order.GiveBack slot) (Some a) (Some a) e refl (record { events = _; turn = gives_back s t h i b slot a z c })
 
-pub acts_none_to_give : (s : State) (h : Slots) (b : List ℕ) (slot : ℕ) (o : Order) → o ≡ order.GiveBack slot → filled h slot ≡ false → Acts (with s h b) o NotMade (with s h b)
-acts_none_to_give s h b slot o e z = as_ordered _ _ o (order.GiveBack slot) NotMade NotMade e refl (record { events = []; turn = none_to_give s h b slot z })
+pub acts_none_to_give : (s : State) (h : Slots) (b : List ℕ) (slot : ℕ) (o : Order) → o ≡ order.GiveBack slot → filled h slot ≡ false → Acts (with s h b) o None (with s h b)
+acts_none_to_give s h b slot o e z = as_ordered _ _ o (order.GiveBack slot) None None e refl (record { events = []; turn = none_to_give s h b slot z })
 
-pub acts_write : (s t : State) (h i : Slots) (b : List ℕ) (slot : ℕ) (o : Order) (a : Answer)
-    → o ≡ order.WriteOff slot → filled h slot ≡ true → WritesFrom s h slot a t i → Acts (with s h b) o a (with t i b)
-acts_write s t h i b slot o a e z c = as_ordered _ _ o (order.WriteOff slot) a a e refl (record { events = _; turn = writes_off s t h i b slot a z c })
+pub acts_write : (s t : State) (h i : Slots) (b : List ℕ) (slot : ℕ) (o : Order) (a : Result Outcome SessionFault)
+    → o ≡ order.WriteOff slot → filled h slot ≡ true → WritesFrom s h slot a t i → Acts (with s h b) o (Some a) (with t i b)
+acts_write s t h i b slot o a e z c = as_ordered _ _ o (order.WriteOff slot) (Some a) (Some a) e refl (record { events = _; turn = writes_off s t h i b slot a z c })
 
-pub acts_none_to_write : (s : State) (h : Slots) (b : List ℕ) (slot : ℕ) (o : Order) → o ≡ order.WriteOff slot → filled h slot ≡ false → Acts (with s h b) o NotMade (with s h b)
-acts_none_to_write s h b slot o e z = as_ordered _ _ o (order.WriteOff slot) NotMade NotMade e refl (record { events = []; turn = none_to_write s h b slot z })
+pub acts_none_to_write : (s : State) (h : Slots) (b : List ℕ) (slot : ℕ) (o : Order) → o ≡ order.WriteOff slot → filled h slot ≡ false → Acts (with s h b) o None (with s h b)
+acts_none_to_write s h b slot o e z = as_ordered _ _ o (order.WriteOff slot) None None e refl (record { events = []; turn = none_to_write s h b slot z })
 
-pub acts_flush : (s t : State) (h : Slots) (b c : List ℕ) (o : Order) (a : Answer) (r : Result ℕ SessionFault)
-    → o ≡ order.Flush → a ≡ counted r → Flush s b r t c → Acts (with s h b) o a (with t h c)
-acts_flush s t h b c o a r e f x = as_ordered _ _ o order.Flush a (counted r) e f (record { events = _; turn = flushes s t h b c r x })
+pub acts_flush : (s t : State) (h : Slots) (b c : List ℕ) (o : Order) (a : Result Outcome SessionFault) (r : Result ℕ SessionFault)
+    → o ≡ order.Flush → a ≡ counted r → Flush s b r t c → Acts (with s h b) o (Some a) (with t h c)
+acts_flush s t h b c o a r e f x = as_ordered _ _ o order.Flush (Some a) (Some (counted r)) e (ap Some f) (record { events = _; turn = flushes s t h b c r x })
 
 -- ---- runs
 

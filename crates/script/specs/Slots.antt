@@ -4,7 +4,7 @@ use Rattle.session_fault.specs.declared.SessionFault.{SessionFault}
 use Rattle.session.specs.declared.pass.Pass.{Pass}
 use Rattle.session.specs.State.{State}
 use Rattle.session.specs.Outages.{TakeOut, GiveBack, WriteOff}
-use Rattle.script.specs.declared.order.Answer.{Answer}
+use Rattle.script.specs.declared.order.Outcome.{Outcome}
 use Rattle.script.specs.Answers.{plain, ended}
 
 abbrev pub Slots : Type 0
@@ -28,13 +28,13 @@ abbrev pub emptied : Result (Unit {0}) (SessionFault × Pass) → ℕ → Slots 
 emptied (Ok a) slot h = slice_set h slot None
 emptied (Err e) slot h = h
 
-pub record TakesInto (s : State) (h : Slots) (k slot : ℕ) (a : Answer) (t : State) (i : Slots) : Type 0 where
+pub record TakesInto (s : State) (h : Slots) (k slot : ℕ) (a : Result Outcome SessionFault) (t : State) (i : Slots) : Type 0 where
   pub result : Result Pass SessionFault
   pub call : TakeOut s k result t
   pub answer : a ≡ plain result
   pub slots : i ≡ stowed result slot h
 
-pub record GivesFrom (s : State) (h : Slots) (slot : ℕ) (a : Answer) (t : State) (i : Slots) : Type 0 where
+pub record GivesFrom (s : State) (h : Slots) (slot : ℕ) (a : Result Outcome SessionFault) (t : State) (i : Slots) : Type 0 where
   pub pass : Pass
   pub there : slice_index_or h slot None ≡ Some pass
   pub result : Result (Unit {0}) (SessionFault × Pass)
@@ -42,7 +42,7 @@ pub record GivesFrom (s : State) (h : Slots) (slot : ℕ) (a : Answer) (t : Stat
   pub answer : a ≡ ended result
   pub slots : i ≡ emptied result slot h
 
-pub record WritesFrom (s : State) (h : Slots) (slot : ℕ) (a : Answer) (t : State) (i : Slots) : Type 0 where
+pub record WritesFrom (s : State) (h : Slots) (slot : ℕ) (a : Result Outcome SessionFault) (t : State) (i : Slots) : Type 0 where
   pub pass : Pass
   pub there : slice_index_or h slot None ≡ Some pass
   pub result : Result (Unit {0}) (SessionFault × Pass)

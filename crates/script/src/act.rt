@@ -5,12 +5,12 @@ ghost use Rattle.session.specs.Views.{state};
 ghost use Rattle.script.specs.Slots.{vacant, filled, TakesInto, GivesFrom, WritesFrom};
 ghost use Rattle.script.specs.Turns.{bench, Acts};
 
-use crate::answers::{answer_of, flush_answer, place_answer};
-use crate::order::{Answer, Order};
+use crate::order::{Answer, Order, Outcome};
 use chip::Chip;
 use machine::Machine;
 use session::pass::Pass;
 use session::store::Session;
+use session_fault::SessionFault;
 
 // Makes the call that the order asks for, if its slot allows one, and answers what came of it.
 pub fn act<M: Machine>(
@@ -23,31 +23,35 @@ pub fn act<M: Machine>(
     ensures { Acts (bench session.old (M.Chip.layout machine.old) (M.Machine.meaning machine.old) slots.old buffer.old) order result (bench session.new (M.Chip.layout machine.new) (M.Machine.meaning machine.new) slots.new buffer.new) }
 {
     match order {
-        Order::Cx { a, b } => answer_of(session.cx(a, b)),
-        Order::Swap { a, b } => answer_of(session.swap(a, b)),
-        Order::Place { wire } => place_answer(session.place(wire)),
+        Order::Cx { a, b } => Some(session.cx(a, b).map(|()| Outcome::Obeyed)),
+        Order::Swap { a, b } => Some(session.swap(a, b).map(|()| Outcome::Obeyed)),
+        Order::Place { wire } => Some(session.place(wire).map(|place| Outcome::At { place })),
         Order::TakeOut { coupler, slot } => {
             if is_vacant(slots, slot) {
-                take_into(session, machine, slots, coupler, slot)
+                Some(take_into(session, machine, slots, coupler, slot))
             } else {
-                Answer::NotMade
+                None
             }
         }
         Order::GiveBack { slot } => {
             if holds_pass(slots, slot) {
-                give_from(session, machine, slots, slot)
+                Some(give_from(session, machine, slots, slot))
             } else {
-                Answer::NotMade
+                None
             }
         }
         Order::WriteOff { slot } => {
             if holds_pass(slots, slot) {
-                write_from(session, machine, slots, slot)
+                Some(write_from(session, machine, slots, slot))
             } else {
-                Answer::NotMade
+                None
             }
         }
-        Order::Flush => flush_answer(session.flush(machine, buffer)),
+        Order::Flush => Some(
+            session
+                .flush(machine, buffer)
+                .map(|gates| Outcome::Flushed { gates }),
+        ),
     }
 }
 
@@ -55,14 +59,14 @@ pub fn act<M: Machine>(
 fn is_vacant(slots: &[Option<Pass>], slot: usize) -> bool
     ensures { result ≡ vacant slots.now slot }
 {
-    slot < slots.len() && slots[slot].is_none()
+    slots.get(slot).is_some_and(|held| held.is_none())
 }
 
 // Whether there is such a slot, and a pass in it.
 fn holds_pass(slots: &[Option<Pass>], slot: usize) -> bool
     ensures { result ≡ filled slots.now slot }
 {
-    slot < slots.len() && slots[slot].is_some()
+    slots.get(slot).is_some_and(|held| held.is_some())
 }
 
 fn take_into<M: Machine>(
@@ -71,17 +75,13 @@ fn take_into<M: Machine>(
     slots: &mut [Option<Pass>],
     coupler: usize,
     slot: usize,
-) -> Answer
+) -> Result<Outcome, SessionFault>
     requires { vacant slots.old slot ≡ true }
     ensures { TakesInto (state session.old (M.Chip.layout machine.old) (M.Machine.meaning machine.old)) slots.old coupler slot result (state session.new (M.Chip.layout machine.new) (M.Machine.meaning machine.new)) slots.new }
 {
-    match session.take_out(machine, coupler) {
-        Ok(handed_out) => {
-            slots[slot] = Some(handed_out);
-            Answer::Obeyed
-        }
-        Err(fault) => Answer::Refused(fault),
-    }
+    let handed_out = session.take_out(machine, coupler)?;
+    slots[slot] = Some(handed_out);
+    Ok(Outcome::Obeyed)
 }
 
 fn give_from<M: Machine>(
@@ -89,7 +89,7 @@ fn give_from<M: Machine>(
     machine: &mut M,
     slots: &mut [Option<Pass>],
     slot: usize,
-) -> Answer
+) -> Result<Outcome, SessionFault>
     requires { filled slots.old slot ≡ true }
     ensures { GivesFrom (state session.old (M.Chip.layout machine.old) (M.Machine.meaning machine.old)) slots.old slot result (state session.new (M.Chip.layout machine.new) (M.Machine.meaning machine.new)) slots.new }
 {
@@ -97,10 +97,10 @@ fn give_from<M: Machine>(
         unreachable()
     };
     match session.give_back(machine, pass) {
-        Ok(()) => Answer::Obeyed,
+        Ok(()) => Ok(Outcome::Obeyed),
         Err((fault, back)) => {
             slots[slot] = Some(back);
-            Answer::Refused(fault)
+            Err(fault)
         }
     }
 }
@@ -110,7 +110,7 @@ fn write_from<M: Machine>(
     machine: &M,
     slots: &mut [Option<Pass>],
     slot: usize,
-) -> Answer
+) -> Result<Outcome, SessionFault>
     requires { filled slots.old slot ≡ true }
     ensures { WritesFrom (state session.old (M.Chip.layout machine.now) (M.Machine.meaning machine.now)) slots.old slot result (state session.new (M.Chip.layout machine.now) (M.Machine.meaning machine.now)) slots.new }
 {
@@ -118,10 +118,10 @@ fn write_from<M: Machine>(
         unreachable()
     };
     match session.write_off(machine, pass) {
-        Ok(()) => Answer::Obeyed,
+        Ok(()) => Ok(Outcome::Obeyed),
         Err((fault, pass)) => {
             slots[slot] = Some(pass);
-            Answer::Refused(fault)
+            Err(fault)
         }
     }
 }

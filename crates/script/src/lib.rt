@@ -2,6 +2,5 @@
 #![tactic(auto)]
 
 pub mod act;
-mod answers;
 pub mod order;
 pub mod run;

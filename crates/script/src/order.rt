@@ -13,15 +13,17 @@ pub enum Order {
     Flush,
 }
 
+// What an obeyed call answers.
 #[derive(Clone, Copy)]
-pub enum Answer {
-    // no call was made: a take-out has no free slot, or a give-back or write-off no pass
-    NotMade,
+pub enum Outcome {
     Obeyed,
     At { place: usize },
     Flushed { gates: usize },
-    Refused(SessionFault),
 }
+
+// What is noted of an order: the answer of its call. None where no call was made, since a take-out has no free slot, or a
+// give-back or write-off no pass.
+pub type Answer = Option<Result<Outcome, SessionFault>>;
 
 #[derive(Clone, Copy)]
 pub struct Turn {

@@ -1,10 +1,9 @@
-use Rattle.std.proofs.Common.{◌≡◌, ℕ, ◌^◌, ◌<◌, ◌≢◌, List, length, get_or, sym, ap, ◌∙◌, subst, arith}
+use Rattle.std.proofs.Common.{◌≡◌, ℕ, ◌^◌, ◌<◌, List, length, get_or, sym, ap, ◌∙◌, subst, arith}
 use Rattle.std.proofs.lemmas.List.{length-map}
 use Rattle.parity.specs.Placements.{wires_to_places}
 use Rattle.rounds.specs.Ways.{OneIsland}
 use Rattle.rounds.specs.Exactness.{FirstStraddling}
-use Rattle.planner.proofs.Carrying.{some_carried}
-use Rattle.planner.proofs.Planning.{wanted_at, wanted_below}
+use Rattle.planner.proofs.Planning.{wanted_below}
 use Rattle.planner.proofs.reason.first_in_lists.Goals as goal
 
 pub first_straddling-requires : goal.first_straddling-requires

@@ -1,11 +1,9 @@
 use Rattle.std.proofs.Common.{◌≡◌, ℕ, ◌^◌, ◌<◌, ◌≤◌, map, length, get_or, replicate, sym, refl, ◌∙◌, subst, arith}
 use Rattle.std.proofs.lemmas.List.{length-map}
-use Rattle.std.proofs.lemmas.Bool.{both_ways}
 use Rattle.parity.specs.Placements.{Placement, wires_to_places}
-use Rattle.parity.proofs.Pairing.{dot_some}
 use Rattle.rounds.specs.Ways.{OneIsland, Straddles}
-use Rattle.planner.specs.Views.{neighbours_of, words_of, duals_of, places_of}
-use Rattle.planner.proofs.Asking.{neighbours_length, neighbours_graph, words_length, words_below, block_paired, places_placement, first_of_64}
+use Rattle.planner.specs.Views.{neighbours_of, words_of, places_of}
+use Rattle.planner.proofs.Asking.{neighbours_length, neighbours_graph, words_length, words_below, places_placement, first_of_64}
 use Rattle.planner.proofs.Planning.{wanted_at}
 use Rattle.planner.proofs.Couplers.{straddles_over, one_island_over}
 use Rattle.planner.proofs.reason.first_on_two_islands.Goals as goal
