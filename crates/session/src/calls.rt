@@ -34,11 +34,7 @@ impl Session {
         ensures { result ≡ answered (place_fault (view self.now) w) (place_of (view self.now) w) }
     {
         let places = self.places.places();
-        if w < places.len() {
-            Ok(places[w])
-        } else {
-            Err(SessionFault::NoSuchWire)
-        }
+        places.get(w).copied().ok_or(SessionFault::NoSuchWire)
     }
 
     // Adds the word of wire a into that of wire b.

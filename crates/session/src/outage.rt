@@ -45,13 +45,7 @@ impl Session {
         ensures within { result ≡ true → k < vec_len self.now.records.items }
         ensures answer { result ≡ is_out (slice_index_or self.now.records.items.items k WrittenOff) }
     {
-        if k >= self.records.items.len() {
-            return false;
-        }
-        match self.records.items[k] {
-            CouplerRecord::Out => true,
-            CouplerRecord::In | CouplerRecord::WrittenOff => false,
-        }
+        self.records.items.get(k) == Some(&CouplerRecord::Out)
     }
 
     // Whether the pass can be ended here.

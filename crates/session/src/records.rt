@@ -8,7 +8,7 @@ ghost use Rattle.session.specs.declared.records.CouplerRecord.TheVariants.{In};
 
 use std::alloc::{AllocError, Global};
 
-#[derive(Clone, Copy)]
+#[derive(Clone, Copy, PartialEq, Eq, Debug)]
 pub enum CouplerRecord {
     In,
     // out on a pass
