@@ -13,79 +13,82 @@ ghost use Rattle.islands.specs.Laws.{LastPlaceCanGo};
 
 use parity::sets::{entry_of, flip, has, lowest, single, without};
 
-// The island of start: the places that are reached from it by steps to places of live.
-pub fn island_of(adj: &[u64], live: u64, start: usize) -> u64
-    requires small { length adj.now ≤ 64 }
-    requires inside { (start < length adj.now) × (live < 2 ^ length adj.now) }
-    ensures only_reached { (q : ℕ) → bit result q ≡ 1 → Reach adj.now live start q }
-    ensures all_reached { (q : ℕ) → Reach adj.now live start q → bit result q ≡ 1 }
-{
-    let mut seen = single(start);
-    let mut done: u64 = 0;
-    'walk: loop {
-        let Some(q) = lowest(without(seen, done)) else {
-            return seen;
-        };
-        seen = with_live(seen, adj[q], live);
-        done ^= single(q);
-    }
+// For each of at most 64 places the set of its neighbours, and which places are live: may still be used.
+#[derive(Clone, Copy)]
+pub struct LiveGraph<'a> {
+    pub rows: &'a [u64],
+    pub live: u64,
+    ghost small: { length rows.now ≤ 64 },
+    ghost inside: { live < 2 ^ length rows.now },
 }
 
-// Writes the island of root as a tree, breadth first: its places into order, the root first, and the parent
-// of each other place into parent. Returns how many places there are.
-pub fn tree_order(
-    adj: &[u64],
-    live: u64,
-    root: usize,
-    order: &mut [usize],
-    parent: &mut [usize],
-) -> usize
-    requires small { length adj.now ≤ 64 }
-    requires inside { (root < length adj.now) × (live < 2 ^ length adj.now) }
-    requires room { (length adj.now ≤ length order.old) × (length adj.now ≤ length parent.old) }
-    ensures no_more_than_places { result ≤ length adj.now }
-    ensures no_more_than_live { bit live root ≡ 1 → result ≤ count_ones live }
-    ensures tree { TreeOrder adj.now live root order.new parent.new result }
-{
-    let mut seen = single(root);
-    order[0] = root;
-    let mut n = 1;
-    let mut head = 0;
-    while head < n {
-        let q = order[head];
-        match lowest(without(adj[q] & live, seen)) {
-            Some(r) => {
-                seen ^= single(r);
-                hang(order, parent, n, r, q);
-                n += 1;
-            }
-            None => head += 1,
+impl LiveGraph<'_> {
+    // The island of start: the places that are reached from it by steps to places of live.
+    pub fn island_of(&self, start: usize) -> u64
+        requires { start < length self.now.rows.now }
+        ensures only_reached { (q : ℕ) → bit result q ≡ 1 → Reach self.now.rows.now self.now.live start q }
+        ensures all_reached { (q : ℕ) → Reach self.now.rows.now self.now.live start q → bit result q ≡ 1 }
+    {
+        let mut seen = single(start);
+        let mut done: u64 = 0;
+        'walk: loop {
+            let Some(q) = lowest(without(seen, done)) else {
+                return seen;
+            };
+            seen = with_live(seen, self.rows[q], self.live);
+            done ^= single(q);
         }
     }
-    n
-}
 
-// Brings the set `word` to root, along neighbours inside live. Writes the gates into out from `at` on,
-// and returns where they end.
-pub fn bring(adj: &[u64], live: u64, root: usize, word: u64, out: &mut [u16], at: usize) -> usize
-    requires small { length adj.now ≤ 64 }
-    requires inside { (root < length adj.now) × (live < 2 ^ length adj.now) }
-    requires some { word ≢ 0 }
-    requires on_island { (q : ℕ) → bit word q ≡ 1 → Reach adj.now live root q }
-    requires alive { bit live root ≡ 1 }
-    requires room { at + 2 * (count_ones live - 1) ≤ length out.old }
-    ensures wrote { Wrote out.old out.new at result (2 * (count_ones live - 1)) }
-    ensures brought { acts (gates_in out.new at result) word ≡ 2 ^ root }
-    ensures two_places { Each (TwoPlaces (length adj.now)) (gates_in out.new at result) }
-    ensures on_edges { Each (OnEdge adj.now) (gates_in out.new at result) }
-    ensures on_island { Each (OnIsland adj.now live root) (gates_in out.new at result) }
-    ensures spares_root { bit word root ≡ 1 → Each (Spares root) (gates_in out.new at result) }
-    ensures delivers { (ws : List ℕ) → length ws ≡ length adj.now → slice_index (replay (gates_in out.new at result) ws) root ≡ xor_over ws word }
-{
-    let mut order = [0; 64];
-    let mut parent = [0; 64];
-    let n = tree_order(adj, live, root, &mut order, &mut parent);
-    gather(&order[..n], &parent, word, out, at)
+    // Writes the island of root as a tree, breadth first: its places into order, the root first, and the parent
+    // of each other place into parent. Returns how many places there are.
+    pub fn tree_order(&self, root: usize, order: &mut [usize], parent: &mut [usize]) -> usize
+        requires inside { root < length self.now.rows.now }
+        requires room { (length self.now.rows.now ≤ length order.old) × (length self.now.rows.now ≤ length parent.old) }
+        ensures no_more_than_places { result ≤ length self.now.rows.now }
+        ensures no_more_than_live { bit self.now.live root ≡ 1 → result ≤ count_ones self.now.live }
+        ensures tree { TreeOrder self.now.rows.now self.now.live root order.new parent.new result }
+    {
+        let mut seen = single(root);
+        order[0] = root;
+        let mut n = 1;
+        let mut head = 0;
+        // Kept: the order grows while it is walked, and a queue of the library would need a heap.
+        while head < n {
+            let q = order[head];
+            match lowest(without(self.rows[q] & self.live, seen)) {
+                Some(r) => {
+                    seen ^= single(r);
+                    hang(order, parent, n, r, q);
+                    n += 1;
+                }
+                None => head += 1,
+            }
+        }
+        n
+    }
+
+    // Brings the set `word` to root, along neighbours inside live. Writes the gates into out from `at` on,
+    // and returns where they end.
+    pub fn bring(&self, root: usize, word: u64, out: &mut [u16], at: usize) -> usize
+        requires inside { root < length self.now.rows.now }
+        requires some { word ≢ 0 }
+        requires on_island { (q : ℕ) → bit word q ≡ 1 → Reach self.now.rows.now self.now.live root q }
+        requires alive { bit self.now.live root ≡ 1 }
+        requires room { at + 2 * (count_ones self.now.live - 1) ≤ length out.old }
+        ensures wrote { Wrote out.old out.new at result (2 * (count_ones self.now.live - 1)) }
+        ensures brought { acts (gates_in out.new at result) word ≡ 2 ^ root }
+        ensures two_places { Each (TwoPlaces (length self.now.rows.now)) (gates_in out.new at result) }
+        ensures on_edges { Each (OnEdge self.now.rows.now) (gates_in out.new at result) }
+        ensures on_island { Each (OnIsland self.now.rows.now self.now.live root) (gates_in out.new at result) }
+        ensures spares_root { bit word root ≡ 1 → Each (Spares root) (gates_in out.new at result) }
+        ensures delivers { (ws : List ℕ) → length ws ≡ length self.now.rows.now → slice_index (replay (gates_in out.new at result) ws) root ≡ xor_over ws word }
+    {
+        let mut order = [0; 64];
+        let mut parent = [0; 64];
+        let n = self.tree_order(root, &mut order, &mut parent);
+        gather(&order[..n], &parent, word, out, at)
+    }
 }
 
 // Gathers the set `word` into the root of a tree, from the last place of the order up.

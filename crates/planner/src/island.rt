@@ -7,7 +7,7 @@ ghost use Rattle.planner.specs.Views.{neighbours_of};
 
 use crate::store::Adjacency;
 use chip::Chip;
-use islands::island_of;
+use islands::LiveGraph;
 use machine::Machine;
 use parity::sets::all_below;
 
@@ -26,6 +26,10 @@ impl Adjacency {
         if p >= self.n {
             return 0;
         }
-        island_of(&self.rows[..self.n], all_below(self.n), p)
+        let graph = LiveGraph {
+            rows: &self.rows[..self.n],
+            live: all_below(self.n),
+        };
+        graph.island_of(p)
     }
 }

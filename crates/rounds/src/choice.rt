@@ -6,7 +6,7 @@ ghost use Rattle.islands.specs.Graphs.{Reach};
 ghost use Rattle.rounds.specs.Ways.{Graph};
 ghost use Rattle.rounds.specs.Rounds.{CanGo};
 
-use islands::{island_of, tree_order};
+use islands::LiveGraph;
 use parity::sets::{has, lowest, single};
 
 // The first of the waiting wires whose set and dual have the fewest places, if any waits.
@@ -26,22 +26,21 @@ pub fn next_wire(waiting: u64, wanted: &[u64], duals: &[u64]) -> Option<usize>
 }
 
 // A place of start's island that can go: the nearest to start that is found.
-pub fn root(adj: &[u64], live: u64, start: usize) -> usize
-    requires small { length adj.now ≤ 64 }
-    requires graph { Graph adj.now }
-    requires inside { (start < length adj.now) × (live < 2 ^ length adj.now) }
-    requires alive { bit live start ≡ 1 }
-    ensures below { result < length adj.now }
-    ensures alive { bit live result ≡ 1 }
-    ensures reached { Reach adj.now live start result }
-    ensures can_go { CanGo adj.now live result }
+pub fn root(graph: &LiveGraph<'_>, start: usize) -> usize
+    requires graph { Graph graph.now.rows.now }
+    requires inside { start < length graph.now.rows.now }
+    requires alive { bit graph.now.live start ≡ 1 }
+    ensures below { result < length graph.now.rows.now }
+    ensures alive { bit graph.now.live result ≡ 1 }
+    ensures reached { Reach graph.now.rows.now graph.now.live start result }
+    ensures can_go { CanGo graph.now.rows.now graph.now.live result }
 {
     let mut order = [0; 64];
     let mut parent = [0; 64];
-    let n = tree_order(adj, live, start, &mut order, &mut parent);
-    let island = island_of(adj, live, start);
+    let n = graph.tree_order(start, &mut order, &mut parent);
+    let island = graph.island_of(start);
     for r in &order[..n] {
-        if hangs_together_without(adj, island, *r) {
+        if hangs_together_without(graph, island, *r) {
             return *r;
         }
     }
@@ -49,16 +48,19 @@ pub fn root(adj: &[u64], live: u64, start: usize) -> usize
 }
 
 // Whether the other places of the island reach one another without r.
-fn hangs_together_without(adj: &[u64], island: u64, r: usize) -> bool
-    requires small { length adj.now ≤ 64 }
-    requires graph { Graph adj.now }
-    requires inside { island < 2 ^ length adj.now }
+fn hangs_together_without(graph: &LiveGraph<'_>, island: u64, r: usize) -> bool
+    requires graph { Graph graph.now.rows.now }
+    requires inside { island < 2 ^ length graph.now.rows.now }
     requires has { (bit island r ≡ 1) × (r < 64) }
-    ensures { result ≡ true → (x y : ℕ) → x ≢ r → y ≢ r → bit island x ≡ 1 → bit island y ≡ 1 → Reach adj.now (bit_xor island (2 ^ r)) x y }
+    ensures { result ≡ true → (x y : ℕ) → x ≢ r → y ≢ r → bit island x ≡ 1 → bit island y ≡ 1 → Reach graph.now.rows.now (bit_xor island (2 ^ r)) x y }
 {
     let rest = island ^ single(r);
+    let others = LiveGraph {
+        rows: graph.rows,
+        live: rest,
+    };
     match lowest(rest) {
-        Some(q) => island_of(adj, rest, q) == rest,
+        Some(q) => others.island_of(q) == rest,
         None => true,
     }
 }

@@ -12,7 +12,7 @@ ghost use Rattle.rounds.specs.Plans.{Planned};
 ghost use Rattle.rounds.specs.Exactness.{Refused, Exact, StraddlingStays, StraddlingNeverSingle};
 
 use choice::{next_wire, root};
-use islands::island_of;
+use islands::LiveGraph;
 use looks::{all_single, all_single_on, first_straddling};
 use parity::sets::{all_below, lowest, single};
 use round::bring_both;
@@ -46,7 +46,8 @@ pub fn plan(adj: &[u64], wanted: &mut [u64], duals: &mut [u64], out: &mut [u16])
     let mut waiting = live;
     let mut at = 0;
     while let Some(w) = next_wire(waiting, wanted, duals) {
-        let (r, end) = give(adj, live, w, wanted, duals, out, at);
+        let graph = LiveGraph { rows: adj, live };
+        let (r, end) = give(&graph, w, wanted, duals, out, at);
         at = end;
         live ^= single(r);
         waiting ^= single(w);
@@ -57,36 +58,33 @@ pub fn plan(adj: &[u64], wanted: &mut [u64], duals: &mut [u64], out: &mut [u16])
 // Gives the wire w a place: by a round, unless each set on its island is a single place.
 // Writes the gates into out from `at` on. Returns the place, and where the gates end.
 fn give(
-    adj: &[u64],
-    live: u64,
+    graph: &LiveGraph<'_>,
     w: usize,
     wanted: &mut [u64],
     duals: &mut [u64],
     out: &mut [u16],
     at: usize,
 ) -> (usize, usize)
-    requires small { length adj.now ≤ 64 }
-    requires graph { Graph adj.now }
-    requires inside { live < 2 ^ length adj.now }
+    requires graph { Graph graph.now.rows.now }
     requires wire { (w < length wanted.old) × (w < length duals.old) }
-    requires alive { (q : ℕ) → bit (slice_index wanted.old w) q ≡ 1 → bit live q ≡ 1 }
-    requires on_island { (p q : ℕ) → bit (slice_index wanted.old w) p ≡ 1 → bit (slice_index wanted.old w) q ≡ 1 → Reach adj.now live p q }
+    requires alive { (q : ℕ) → bit (slice_index wanted.old w) q ≡ 1 → bit graph.now.live q ≡ 1 }
+    requires on_island { (p q : ℕ) → bit (slice_index wanted.old w) p ≡ 1 → bit (slice_index wanted.old w) q ≡ 1 → Reach graph.now.rows.now graph.now.live p q }
     requires paired { dot (slice_index wanted.old w) (slice_index duals.old w) ≡ 1 }
-    requires room { at + 4 * (count_ones live - 1) ≤ length out.old }
-    ensures below { result.0 < length adj.now }
-    ensures alive { bit live result.0 ≡ 1 }
-    ensures told { Told adj.now live result.0 }
-    ensures given { Given adj.now live w result.0 wanted.old wanted.new duals.old duals.new out.old out.new at result.1 }
+    requires room { at + 4 * (count_ones graph.now.live - 1) ≤ length out.old }
+    ensures below { result.0 < length graph.now.rows.now }
+    ensures alive { bit graph.now.live result.0 ≡ 1 }
+    ensures told { Told graph.now.rows.now graph.now.live result.0 }
+    ensures given { Given graph.now.rows.now graph.now.live w result.0 wanted.old wanted.new duals.old duals.new out.old out.new at result.1 }
 {
     let Some(start) = lowest(wanted[w]) else {
         unreachable()
     };
-    let island = island_of(adj, live, start);
+    let island = graph.island_of(start);
     if all_single_on(island, wanted) {
         return (start, at);
     }
-    let r = root(adj, live, start);
-    let end = bring_both(adj, live, w, r, wanted, duals, out, at);
+    let r = root(graph, start);
+    let end = bring_both(graph, w, r, wanted, duals, out, at);
     (r, end)
 }
 

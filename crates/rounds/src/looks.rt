@@ -5,7 +5,7 @@ ghost use Rattle.rounds.specs.Ways.{Graph, OneIsland, Straddles};
 ghost use Rattle.rounds.specs.Plans.{AllSingle};
 ghost use Rattle.rounds.specs.Exactness.{FirstStraddling};
 
-use islands::island_of;
+use islands::LiveGraph;
 use parity::sets::{all_below, lowest, without};
 
 // Whether each set is a single place.
@@ -50,9 +50,12 @@ fn straddles(adj: &[u64], x: u64) -> bool
     ensures yes { result ≡ true → x < 2 ^ length adj.now → Straddles adj.now x }
     ensures no { result ≡ false → x < 2 ^ length adj.now → OneIsland adj.now x }
 {
-    let live = all_below(adj.len());
-    match lowest(x & live) {
-        Some(q) => off_island(x, live, island_of(adj, live, q)) != 0,
+    let graph = LiveGraph {
+        rows: adj,
+        live: all_below(adj.len()),
+    };
+    match lowest(x & graph.live) {
+        Some(q) => off_island(x, graph.live, graph.island_of(q)) != 0,
         None => false,
     }
 }

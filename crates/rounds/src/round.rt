@@ -9,14 +9,13 @@ ghost use Rattle.islands.specs.Graphs.{Reach};
 ghost use Rattle.rounds.specs.Duals.{Moved};
 ghost use Rattle.rounds.specs.Rounds.{BothBrought, Told};
 
-use islands::{bring, island_of};
+use islands::LiveGraph;
 use parity::sets::{acted, entry_of};
 
 // Brings the wanted set of the wire w to r, along edges inside live, and then its dual, as far as it lies on the island of r,
 // with control and target exchanged. Writes the gates into out from `at` on, and returns where they end.
 pub fn bring_both(
-    adj: &[u64],
-    live: u64,
+    graph: &LiveGraph<'_>,
     w: usize,
     r: usize,
     wanted: &mut [u64],
@@ -24,20 +23,19 @@ pub fn bring_both(
     out: &mut [u16],
     at: usize,
 ) -> usize
-    requires small { length adj.now ≤ 64 }
-    requires inside { (r < length adj.now) × (live < 2 ^ length adj.now) }
-    requires alive { bit live r ≡ 1 }
+    requires inside { r < length graph.now.rows.now }
+    requires alive { bit graph.now.live r ≡ 1 }
     requires wire { (w < length wanted.old) × (w < length duals.old) }
-    requires on_island { (q : ℕ) → bit (slice_index wanted.old w) q ≡ 1 → Reach adj.now live r q }
+    requires on_island { (q : ℕ) → bit (slice_index wanted.old w) q ≡ 1 → Reach graph.now.rows.now graph.now.live r q }
     requires paired { dot (slice_index wanted.old w) (slice_index duals.old w) ≡ 1 }
-    requires room { at + 4 * (count_ones live - 1) ≤ length out.old }
-    ensures both { BothBrought adj.now live w r wanted.old wanted.new duals.old duals.new out.old out.new at result }
-    ensures told { Told adj.now live r }
+    requires room { at + 4 * (count_ones graph.now.live - 1) ≤ length out.old }
+    ensures both { BothBrought graph.now.rows.now graph.now.live w r wanted.old wanted.new duals.old duals.new out.old out.new at result }
+    ensures told { Told graph.now.rows.now graph.now.live r }
 {
-    let mid = bring(adj, live, r, wanted[w], out, at);
+    let mid = graph.bring(r, wanted[w], out, at);
     carry(&out[at..mid], wanted, duals);
-    let island = island_of(adj, live, r);
-    let end = bring(adj, live, r, duals[w] & island, out, mid);
+    let island = graph.island_of(r);
+    let end = graph.bring(r, duals[w] & island, out, mid);
     carry(&out[mid..end], duals, wanted);
     turn(&mut out[mid..end]);
     end

@@ -10,10 +10,7 @@ pub island_of-island-requires : goal.island_of-island-requires
 island_of-island-requires c =
     let o = c.in-Some.ensures.inside in
     let l = c.requires.alive c.in-Some.start o in
-    record {
-      small = c.requires.small;
-      inside = (place_below (length c.args.adj.now) c.args.live c.in-Some.start c.requires.inside l, c.requires.inside);
-    }
+    place_below (length c.args.graph.now.rows.now) c.args.graph.now.live c.in-Some.start c.args.graph.now.inside l
 
 pub returns-then-all_single_on : goal.returns-then-all_single_on
 returns-then-all_single_on c =
@@ -27,7 +24,7 @@ returns-then-all_single_on c =
     let s = single_place (get_or xs w 0) (yes w c.requires.wire.0 start o (c.island_of-island.ensures.all_reached start here)) in
     let e : s.0 ≡ start = place_is s.0 start (ap (λ (x : ℕ). bit x start) (sym s.1) ∙ o) in
     record {
-      below = place_below (length c.args.adj.now) c.args.live start c.requires.inside l;
+      below = place_below (length c.args.graph.now.rows.now) c.args.graph.now.live start c.args.graph.now.inside l;
       alive = l;
       told = λ q. elim (bit_cases isl q) [
         | inl z ↦ inr (λ p. zero_one (bit isl q) z (c.island_of-island.ensures.all_reached q p))
@@ -48,9 +45,8 @@ root-r-requires c =
     let o = c.in-Some.ensures.inside in
     let l = c.requires.alive c.in-Some.start o in
     record {
-      small = c.requires.small;
       graph = c.requires.graph;
-      inside = (place_below (length c.args.adj.now) c.args.live c.in-Some.start c.requires.inside l, c.requires.inside);
+      inside = place_below (length c.args.graph.now.rows.now) c.args.graph.now.live c.in-Some.start c.args.graph.now.inside l;
       alive = l;
     }
 
@@ -59,8 +55,7 @@ bring_both-end-requires c =
     let start = c.in-Some.start in
     let o = c.in-Some.ensures.inside in
     record {
-      small = c.requires.small;
-      inside = (c.root-r.ensures.below, c.requires.inside);
+      inside = c.root-r.ensures.below;
       alive = c.root-r.ensures.alive;
       wire = (c.requires.wire.0, c.requires.wire.1);
       on_island = λ q b. reach_trans (reach_back c.requires.graph (c.requires.alive start o) c.root-r.ensures.reached) (c.requires.on_island start q o b);

@@ -96,9 +96,7 @@ give-r-requires c =
     let p = some_place x (dot_some x (get_or c.loop-w.duals w 0) (s.paired.own w h)) in
     let paid = cost_round c.loop-w.at (ones live) (ones (bit_xor live (2 ^ p.0))) (2 * (length adj * (length adj - 1))) k.paid (ones_less live p.0 (s.alive w o p.0 p.1)) in
     record {
-      small = c.requires.small;
       graph = c.requires.graph;
-      inside = k.live_below;
       wire = (omega (arith, c.requires.lengths.0), omega (arith, c.requires.lengths.1));
       alive = s.alive w o;
       on_island = s.on_island w o;

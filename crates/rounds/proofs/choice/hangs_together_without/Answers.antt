@@ -14,19 +14,28 @@ returns-in-None c _ x y nx ny a b =
     (sym (flip_other c.args.island c.args.r x nx) ∙ ap (λ (z : ℕ). bit (bit_xor c.args.island z) x) (sym (c.single.ensures.place c.requires.has.1))
     ∙ ap (λ (z : ℕ). bit z x) c.in-None.ensures ∙ bit_none x) a
 
-pub island_of-requires-clause-inside : goal.island_of-requires-clause-inside
-island_of-requires-clause-inside c =
-    let n = length c.args.adj.now in
-    let low : bit_xor c.args.island c.single.result < 2 ^ n =
-    subst (λ (z : ℕ). bit_xor c.args.island z < 2 ^ n) (sym (c.single.ensures.place c.requires.has.1))
-    (xor_lt n c.args.island (2 ^ c.args.r) c.requires.inside (pow-lt (place_below n c.args.island c.args.r c.requires.inside c.requires.has.0))) in
-    (place_below n (bit_xor c.args.island c.single.result) c.in-Some.q low c.in-Some.ensures.inside, low)
+-- the island without r is of places of the graph
+low : (n island r one : ℕ) → one ≡ 2 ^ r → island < 2 ^ n → bit island r ≡ 1 → bit_xor island one < 2 ^ n
+low n island r one e inside has =
+    subst (λ (z : ℕ). bit_xor island z < 2 ^ n) (sym e) (xor_lt n island (2 ^ r) inside (pow-lt (place_below n island r inside has)))
+
+pub invariant_of-others : goal.invariant_of-others
+invariant_of-others c = record {
+  small = c.args.graph.now.small;
+  inside = low (length c.args.graph.now.rows.now) c.args.island c.args.r c.single.result (c.single.ensures.place c.requires.has.1) c.requires.inside c.requires.has.0;
+}
+
+pub island_of-requires : goal.island_of-requires
+island_of-requires c =
+    let n = length c.args.graph.now.rows.now in
+    place_below n (bit_xor c.args.island c.single.result) c.in-Some.q
+    (low n c.args.island c.args.r c.single.result (c.single.ensures.place c.requires.has.1) c.requires.inside c.requires.has.0) c.in-Some.ensures.inside
 
 pub returns-in-Some : goal.returns-in-Some
 returns-in-Some c e x y nx ny a b =
     let isl = c.args.island in
     let r = c.args.r in
-    let adj = c.args.adj.now in
+    let adj = c.args.graph.now.rows.now in
     let s = c.in-Some.q in
     let one = c.single.ensures.place c.requires.has.1 in
     let same : c.island_of.result ≡ bit_xor isl c.single.result = eqb-true c.island_of.result (bit_xor isl c.single.result) e in

@@ -14,8 +14,8 @@ use Rattle.rounds.proofs.choice.root.Goals as goal
 
 pub returns : goal.returns
 returns c =
-    let adj = c.args.adj.now in
-    let live = c.args.live in
+    let adj = c.args.graph.now.rows.now in
+    let live = c.args.graph.now.live in
     let start = c.args.start in
     let order = c.tree_order-n.new.order in
     let parent = c.tree_order-n.new.parent in
@@ -41,25 +41,24 @@ in_use adj live start order parent n i t alive h =
 
 pub hangs_together_without-requires : goal.hangs_together_without-requires
 hangs_together_without-requires c =
-    let adj = c.args.adj.now in
+    let adj = c.args.graph.now.rows.now in
     let n = c.tree_order-n.result in
     let order = c.tree_order-n.new.order in
     let r = get_or (take n order) c.loop-r.r-index 0 in
-    let it = in_use adj c.args.live c.args.start order c.tree_order-n.new.parent n c.loop-r.r-index c.tree_order-n.ensures.tree c.requires.alive c.loop-r-test.true in
+    let it = in_use adj c.args.graph.now.live c.args.start order c.tree_order-n.new.parent n c.loop-r.r-index c.tree_order-n.ensures.tree c.requires.alive c.loop-r-test.true in
     let l : r < length adj = it.0 in
-    let m : length adj ≤ 64 = c.requires.small in
+    let m : length adj ≤ 64 = c.args.graph.now.small in
     record {
-      small = c.requires.small;
       graph = c.requires.graph;
       inside = below_all (length adj) c.island_of-island.result
-          (λ q o. place_below (length adj) c.args.live q c.requires.inside.1 (reach_live c.requires.alive (c.island_of-island.ensures.only_reached q o)));
+          (λ q o. place_below (length adj) c.args.graph.now.live q c.args.graph.now.inside (reach_live c.requires.alive (c.island_of-island.ensures.only_reached q o)));
       has = (c.island_of-island.ensures.all_reached r it.1, omega arith);
     }
 
 pub returns-then-hangs_together_without : goal.returns-then-hangs_together_without
 returns-then-hangs_together_without c =
-    let adj = c.args.adj.now in
-    let live = c.args.live in
+    let adj = c.args.graph.now.rows.now in
+    let live = c.args.graph.now.live in
     let isl = c.island_of-island.result in
     let n = c.tree_order-n.result in
     let order = c.tree_order-n.new.order in

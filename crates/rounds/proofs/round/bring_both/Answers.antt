@@ -19,8 +19,7 @@ use Rattle.rounds.proofs.round.bring_both.Goals as goal
 
 pub bring-mid-requires : goal.bring-mid-requires
 bring-mid-requires c = record {
-  small = c.requires.small;
-  inside = (c.requires.inside.0, c.requires.inside.1);
+  inside = c.requires.inside;
   some = dot_some (get_or c.args.wanted.now c.args.w 0) (get_or c.args.duals.now c.args.w 0) c.requires.paired;
   on_island = c.requires.on_island;
   alive = c.requires.alive;
@@ -29,7 +28,7 @@ bring-mid-requires c = record {
 
 pub carry-requires : goal.carry-requires
 unfolding gates_in
-carry-requires c = each_map (TwoPlaces (length c.args.adj.now)) (TwoPlaces 64) (two_places_more (length c.args.adj.now) 64 c.requires.small)
+carry-requires c = each_map (TwoPlaces (length c.args.graph.now.rows.now)) (TwoPlaces 64) (two_places_more (length c.args.graph.now.rows.now) 64 c.args.graph.now.small)
     (gates_in c.bring-mid.new.out c.args.at c.bring-mid.result) c.bring-mid.ensures.two_places
 
 pub bring-end-requires : goal.bring-end-requires
@@ -39,12 +38,11 @@ bring-end-requires c =
     let y = get_or c.carry.new.reversed c.args.w 0 in
     let i = c.island_of-island.result in
     let h : bit y r ≡ 1 =
-    dual_has (length c.args.adj.now) (gates_in c.bring-mid.new.out c.args.at c.bring-mid.result)
+    dual_has (length c.args.graph.now.rows.now) (gates_in c.bring-mid.new.out c.args.at c.bring-mid.result)
     c.args.wanted.now c.args.duals.now c.carry.new.reversed c.args.w r
     c.bring-mid.ensures.two_places c.carry.ensures.moved_turned c.bring-mid.ensures.brought c.requires.paired in
     record {
-      small = c.requires.small;
-      inside = (c.requires.inside.0, c.requires.inside.1);
+      inside = c.requires.inside;
       some = bit_some (bit_and y i) r (and_in y i r h (c.island_of-island.ensures.all_reached r here));
       on_island = λ q o. c.island_of-island.ensures.only_reached q (and_parts y i q o).1;
       alive = c.requires.alive;
@@ -53,20 +51,20 @@ bring-end-requires c =
 
 pub carry-requires-2 : goal.carry-requires-2
 unfolding gates_in
-carry-requires-2 c = each_map (TwoPlaces (length c.args.adj.now)) (TwoPlaces 64) (two_places_more (length c.args.adj.now) 64 c.requires.small)
+carry-requires-2 c = each_map (TwoPlaces (length c.args.graph.now.rows.now)) (TwoPlaces 64) (two_places_more (length c.args.graph.now.rows.now) 64 c.args.graph.now.small)
     (gates_in c.bring-end.new.out c.bring-mid.result c.bring-end.result) c.bring-end.ensures.two_places
 
 pub turn-requires : goal.turn-requires
 unfolding gates_in
-turn-requires c = each_map (TwoPlaces (length c.args.adj.now)) (TwoPlaces 64) (two_places_more (length c.args.adj.now) 64 c.requires.small)
+turn-requires c = each_map (TwoPlaces (length c.args.graph.now.rows.now)) (TwoPlaces 64) (two_places_more (length c.args.graph.now.rows.now) 64 c.args.graph.now.small)
     (gates_in c.bring-end.new.out c.bring-mid.result c.bring-end.result) c.bring-end.ensures.two_places
 
 pub returns : goal.returns
 unfolding gates_in
 returns c =
-    let adj = c.args.adj.now in
+    let adj = c.args.graph.now.rows.now in
     let n = length adj in
-    let live = c.args.live in
+    let live = c.args.graph.now.live in
     let r = c.args.r in
     let w = c.args.w in
     let at = c.args.at in

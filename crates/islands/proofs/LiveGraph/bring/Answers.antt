@@ -9,7 +9,7 @@ use Rattle.islands.specs.Trees.{PlacesBelow}
 use Rattle.islands.specs.Moves.{AlongTree}
 use Rattle.islands.proofs.Trees.{order_length, order_at, order_first, order_below, order_within, parents_first, along_tree_on_edge, along_tree_on_island}
 use Rattle.islands.proofs.Gathering.{along_tree_two_places}
-use Rattle.islands.proofs.bring.Goals as goal
+use Rattle.islands.proofs.LiveGraph.bring.Goals as goal
 
 pub gather-requires : goal.gather-requires
 gather-requires c =
@@ -18,7 +18,7 @@ gather-requires c =
     let h : n ≤ length c.tree_order-n.new.order = omega arith in
     let len : length (take n c.tree_order-n.new.order) ≡ n = order_length t h in
     let some : 0 < n = t.some in
-    let few : n ≤ ones c.args.live = c.tree_order-n.ensures.no_more_than_live c.requires.alive in
+    let few : n ≤ ones c.args.self.now.live = c.tree_order-n.ensures.no_more_than_live c.requires.alive in
     record {
       some = (omega arith, c.requires.some);
       places = ((λ i l. let b = order_below t h i l in omega arith), omega arith);
@@ -29,8 +29,8 @@ gather-requires c =
 
 pub returns : goal.returns
 returns c =
-    let adj = c.args.adj.now in
-    let live = c.args.live in
+    let adj = c.args.self.now.rows.now in
+    let live = c.args.self.now.live in
     let root = c.args.root in
     let parent = c.tree_order-n.new.parent in
     let n = c.tree_order-n.result in

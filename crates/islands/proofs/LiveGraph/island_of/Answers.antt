@@ -6,15 +6,15 @@ use Rattle.parity.proofs.Bits.{zero_one, bit_none, bit_pow_same, place_below, pl
 use Rattle.parity.proofs.Masks.{or_cases, or_in_l, or_in_r, and_in, and_parts, flip_up}
 use Rattle.islands.specs.Graphs.{Reach, here, there}
 use Rattle.islands.proofs.Reached.{reach_closed}
-use Rattle.islands.proofs.island_of.Goals as goal
+use Rattle.islands.proofs.LiveGraph.island_of.Goals as goal
 
 pub walk-init : goal.walk-init
 walk-init c =
     let s = c.args.start in
     let r : c.single-seen.result ≡ 2 ^ s = c.single-seen.ensures.place (omega arith) in (
-      subst (λ (x : ℕ). x < 2 ^ length c.args.adj.now) (sym r) (pow-lt c.requires.inside.0),
+      subst (λ (x : ℕ). x < 2 ^ length c.args.self.now.rows.now) (sym r) (pow-lt c.requires),
       ap (λ x. bit x s) r ∙ bit_pow_same s,
-      λ q o. subst (Reach c.args.adj.now c.args.live s) (place_is s q (ap (λ x. bit x q) (sym r) ∙ o)) here,
+      λ q o. subst (Reach c.args.self.now.rows.now c.args.self.now.live s) (place_is s q (ap (λ x. bit x q) (sym r) ∙ o)) here,
       lit< tt,
       λ q _ o _ _. zero_one (bit 0 q) (bit_none q) o,
     )
@@ -28,12 +28,12 @@ returns-in_default c =
     λ q o. set_unless c.walk.done q (λ z. zero_one (bit c.without.result q) (none q) (c.without.ensures.all q o z)) in
     record {
       only_reached = inv.2;
-      all_reached = λ q p. reach_closed c.args.adj.now c.args.live c.args.start seen inv.1 (λ a b h. inv.4 a b (all a h)) p;
+      all_reached = λ q p. reach_closed c.args.self.now.rows.now c.args.self.now.live c.args.start seen inv.1 (λ a b h. inv.4 a b (all a h)) p;
     }
 
-pub bounds-adj-q : goal.bounds-adj-q
-bounds-adj-q c =
-    place_below (length c.args.adj.now) c.walk.seen c.in-Some.q c.walk.invariant.0
+pub bounds-self-q : goal.bounds-self-q
+bounds-self-q c =
+    place_below (length c.args.self.now.rows.now) c.walk.seen c.in-Some.q c.walk.invariant.0
     (c.without.ensures.only c.in-Some.q c.in-Some.ensures.inside).0
 
 -- the place that was picked: it is seen, and not done
@@ -53,8 +53,8 @@ walk-smaller c =
 
 pub walk-preserved : goal.walk-preserved
 walk-preserved c =
-    let adj = c.args.adj.now in
-    let live = c.args.live in
+    let adj = c.args.self.now.rows.now in
+    let live = c.args.self.now.live in
     let q = c.in-Some.q in
     let d = c.walk.done in
     let seen = c.walk.seen in
@@ -65,7 +65,7 @@ walk-preserved c =
     let e : bit_xor d c.single-done.result ≡ bit_xor d (2 ^ q) = ap (bit_xor d) (c.single-done.ensures.place low) in
     let kept : (r : ℕ) → bit seen r ≡ 1 → bit c.with_live-seen.result r ≡ 1 = λ r o. ap (λ z. bit z r) grown ∙ or_in_l seen more r o in (
       subst (λ (x : ℕ). x < 2 ^ length adj) (sym grown)
-          (or_lt (length adj) seen more inv.0 (lt_of_le_of_lt (and_le_r (get_or adj q 0) live) c.requires.inside.1)),
+          (or_lt (length adj) seen more inv.0 (lt_of_le_of_lt (and_le_r (get_or adj q 0) live) c.args.self.now.inside)),
       kept c.args.start inv.1,
       λ r o. elim (or_cases seen more r (ap (λ z. bit z r) (sym grown) ∙ o)) [
         | inl a ↦ inv.2 r a

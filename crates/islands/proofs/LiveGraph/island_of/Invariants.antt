@@ -1,16 +1,16 @@
 use Rattle.std.proofs.Common.{◌≡◌, ℕ, ◌-◌, ◌^◌, ◌<◌, length, get_or}
 use Rattle.parity.specs.Sets.{bit}
 use Rattle.islands.specs.Graphs.{Reach}
-use Rattle.islands.proofs.island_of.Given as goal
+use Rattle.islands.proofs.LiveGraph.island_of.Given as goal
 
 -- what is seen is reached, and the live neighbours of what is done are seen
 abbrev pub invariant-walk : goal.invariant-walk
 invariant-walk l =
-    (l.seen < 2 ^ length l.adj)
+    (l.seen < 2 ^ length l.self.rows.now)
     × (bit l.seen l.start ≡ 1)
-    × ((q : ℕ) → bit l.seen q ≡ 1 → Reach l.adj l.live l.start q)
+    × ((q : ℕ) → bit l.seen q ≡ 1 → Reach l.self.rows.now l.self.live l.start q)
     × (l.done < 2 ^ 64)
-    × ((q r : ℕ) → bit l.done q ≡ 1 → bit (get_or l.adj q 0) r ≡ 1 → bit l.live r ≡ 1 → bit l.seen r ≡ 1)
+    × ((q r : ℕ) → bit l.done q ≡ 1 → bit (get_or l.self.rows.now q 0) r ≡ 1 → bit l.self.live r ≡ 1 → bit l.seen r ≡ 1)
 
 abbrev pub decreases-walk : goal.decreases-walk
 decreases-walk l = 2 ^ 64 - l.done
