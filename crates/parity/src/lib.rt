@@ -4,6 +4,7 @@
 ghost use Rattle.std.specs.Prelude.{◌≡◌, map};
 ghost use Rattle.parity.specs.Words.{fresh, cnot, gate_of, replay, Rereads};
 
+use sets::ends_of;
 use std::array;
 
 pub mod laws;
@@ -30,8 +31,7 @@ pub fn replay_entries(entries: &[u16], words: &mut [u64])
 fn apply_entry(e: u16, words: &mut [u64])
     ensures { words.new ≡ cnot (gate_of e) words.old }
 {
-    let c = (e / 64) as usize;
-    let t = (e % 64) as usize;
+    let (c, t) = ends_of(e);
     if c >= words.len() || t >= words.len() {
         return;
     }

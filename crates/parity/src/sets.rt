@@ -1,6 +1,6 @@
 // Words as sets of places, in code. No place of a word is 64 or above.
 ghost use Rattle.std.specs.Prelude.{◌≡◌, ℕ, ◌-◌, ◌^◌, ◌<◌, ◌≤◌, ◌≢◌, ◌==◌, bit_xor, MatchOption};
-ghost use Rattle.parity.specs.Words.{entry};
+ghost use Rattle.parity.specs.Words.{entry, gate_of};
 ghost use Rattle.parity.specs.Sets.{bit, when, LowestPlace};
 ghost use Rattle.parity.specs.Gates.{act};
 ghost use Rattle.parity.specs.Pairing.{dot};
@@ -122,4 +122,11 @@ pub fn entry_of(c: usize, t: usize) -> u16
     } else {
         0
     }
+}
+
+// The control and the target of an entry's gate.
+pub fn ends_of(e: u16) -> (usize, usize)
+    ensures { result ≡ gate_of e }
+{
+    ((e / 64) as usize, (e % 64) as usize)
 }

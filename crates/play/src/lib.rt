@@ -9,6 +9,7 @@ ghost use Rattle.play.specs.Playing.{outcome, replayed, Turn, PlayedWhole};
 use chip::Chip;
 use machine::Machine;
 use machine::fault::MachineFault;
+use parity::sets::ends_of;
 
 // Plays gates, each written as 64 x control + target, up to the first that is refused.
 pub fn play<M: Machine>(machine: &mut M, entries: &[u16]) -> Result<(), MachineFault>
@@ -28,7 +29,8 @@ fn play_entry<M: Machine>(machine: &mut M, e: u16) -> Result<(), MachineFault>
     ensures turn { Turn (M.Chip.layout machine.old) (M.Machine.meaning machine.old) (M.Machine.meaning machine.new) e result }
     ensures same_chip { M.Chip.layout machine.new ≡ M.Chip.layout machine.old }
 {
-    machine.cnot((e / 64) as usize, (e % 64) as usize)
+    let (c, t) = ends_of(e);
+    machine.cnot(c, t)
 }
 
 // Gates on couplers in service, within the allowance, are all played: the words are their replay.

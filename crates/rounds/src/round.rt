@@ -10,7 +10,7 @@ ghost use Rattle.rounds.specs.Duals.{Moved};
 ghost use Rattle.rounds.specs.Rounds.{BothBrought, Told};
 
 use islands::LiveGraph;
-use parity::sets::{acted, entry_of};
+use parity::sets::{acted, ends_of, entry_of};
 
 // Brings the wanted set of the wire w to r, along edges inside live, and then its dual, as far as it lies on the island of r,
 // with control and target exchanged. Writes the gates into out from `at` on, and returns where they end.
@@ -48,7 +48,7 @@ fn carry(entries: &[u16], straight: &mut [u64], reversed: &mut [u64])
     ensures moved_turned { Moved (turned (map gate_of entries.now)) reversed.old reversed.new }
 {
     for e in entries {
-        let (c, t) = ((*e / 64) as usize, (*e % 64) as usize);
+        let (c, t) = ends_of(*e);
         act_on_each(straight, c, t);
         act_on_each(reversed, t, c);
     }
@@ -78,5 +78,6 @@ fn turn(entries: &mut [u16])
 fn turned_entry(e: u16) -> u16
     ensures { e / 64 < 64 → result ≡ entry (e % 64, e / 64) }
 {
-    entry_of((e % 64) as usize, (e / 64) as usize)
+    let (c, t) = ends_of(e);
+    entry_of(t, c)
 }

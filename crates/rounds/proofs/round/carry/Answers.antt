@@ -1,4 +1,4 @@
-use Rattle.std.proofs.Common.{◌≡◌, ℕ, List, [], ◌∷◌, map, length, get_or, sym, ap, ◌∙◌, subst, arith}
+use Rattle.std.proofs.Common.{◌≡◌, ℕ, List, [], ◌∷◌, ◌++◌, map, length, get_or, sym, ap, ◌∙◌, subst, arith}
 use Rattle.parity.specs.Words.{Gate, gate_of}
 use Rattle.parity.specs.Gates.{acts, TwoPlaces, Each}
 use Rattle.parity.specs.Pairing.{turned}
@@ -19,16 +19,17 @@ loop-e-init c =
 pub act_on_each-requires : goal.act_on_each-requires
 act_on_each-requires c =
     let es = c.args.entries.now in
-    (each_at (TwoPlaces 64) es 0 c.loop-e.e-index (length es) (omega arith) (omega arith) (omega arith) (subst (Each (TwoPlaces 64)) (sym (gates_whole es)) c.requires)).from
+    (subst (TwoPlaces 64) (sym c.ends_of-c.ensures)
+    (each_at (TwoPlaces 64) es 0 c.loop-e.e-index (length es) (omega arith) (omega arith) (omega arith) (subst (Each (TwoPlaces 64)) (sym (gates_whole es)) c.requires))).from
 
 pub loop-e-preserved : goal.loop-e-preserved
 loop-e-preserved c =
     let o = c.args.entries.now in
     let i : ℕ = 0 in
     let k = c.loop-e.e-index in
-    let g : Gate = gate_of (get_or o k 0) in
+    let g : Gate = c.ends_of-c.result in
     let h : Gate = (g.1, g.0) in
-    let e = gates_in_next o i k (omega arith) (omega arith) in (
+    let e = gates_in_next o i k (omega arith) (omega arith) ∙ ap (λ (f : Gate). gates_in o i k ++ f ∷ []) (sym c.ends_of-c.ensures) in (
       subst (λ (gs : List Gate). Moved gs c.args.straight.now c.act_on_each.new.sets) (sym e)
           (moved_append (gates_in o i k) (g ∷ []) c.args.straight.now c.loop-e.straight c.act_on_each.new.sets
           c.loop-e.invariant.0 (moved_one g c.loop-e.straight c.act_on_each.new.sets c.act_on_each.ensures)),
