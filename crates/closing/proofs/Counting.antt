@@ -28,8 +28,8 @@ filled_set (y ∷ h) (suc slot) x l = let e = filled_set h slot x (le_of_suc-le-
 
 none_there : (o : Option Pass) (b : Bool) → cond b (not (is_some o)) false ≡ true → passes_in o ≡ 0
 none_there None b e = refl
-none_there (Some p) true e = let z : ◌≡◌ {A = ℕ} 0 1 = cc in absurd (omega arith)
-none_there (Some p) false e = let z : ◌≡◌ {A = ℕ} 0 1 = cc in absurd (omega arith)
+none_there (Some p) true e = absurd cc
+none_there (Some p) false e = absurd cc
 
 none_filled : (h : Slots) → ((i : ℕ) → get_or h i None ≡ None) → filled_count h ≡ 0
 none_filled [] none = refl

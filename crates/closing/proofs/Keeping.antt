@@ -29,10 +29,10 @@ use Rattle.closing.specs.Good.{Good, passes_in, filled_count, slot_fault, after_
 -- ---- records and slots
 
 in_not_out : In ≡ Out → ⊥
-in_not_out e = let z : ◌≡◌ {A = ℕ} 0 1 = cc in absurd (omega arith)
+in_not_out e = absurd cc
 
 none_not_some : {A : Type 0} (o : Option A) (a : A) → o ≡ None → o ≡ Some a → ⊥
-none_not_some o a e f = let z : ◌≡◌ {A = ℕ} 0 1 = cc in absurd (omega arith)
+none_not_some o a e f = absurd cc
 
 some_same : {A : Type 0} (o : Option A) (a b : A) → o ≡ Some a → o ≡ Some b → a ≡ b
 some_same o a b e f = cc
@@ -117,7 +117,7 @@ module _ (s : State) (h : Slots) (k slot : ℕ) (service : List Bool) (was : get
     | inl z ↦ (
       ap (λ (q : Pass). q.session) z.1,
       ap (λ (q : Pass). get_or (set s.session.records k Out) q.coupler WrittenOff) z.1
-          ∙ get_or-set_same s.session.records k Out WrittenOff (inside s.session.records k WrittenOff In was (λ y. let z : ◌≡◌ {A = ℕ} 0 1 = cc in absurd (omega arith))),
+          ∙ get_or-set_same s.session.records k Out WrittenOff (inside s.session.records k WrittenOff In was (λ y. absurd cc)),
     )
     | inr f ↦ ((g.own i p f).0, others_kept s k p.coupler Out (g.own i p f).1 (not_taken i p f))
   ]

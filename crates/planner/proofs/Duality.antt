@@ -168,7 +168,7 @@ pub some_same : {A : Type 0} {x y : A} → Some x ≡ Some y → x ≡ y
 some_same h = cc
 
 some_none : {F : Type 0} (f : F) → Some f ≡ None → ⊥
-some_none f h = let z : ◌≡◌ {A = ℕ} 0 1 = cc in omega arith
+some_none f h = cc
 
 -- no fault: two wires below n
 pub two_wires : (n a b : ℕ) → wire_fault n a b ≡ None → (a < n) × (b < n) × (a ≢ b)

@@ -85,7 +85,7 @@ no_rows l service rows wide none = record {
 }
 
 some_none : {F : Type 0} (f : F) → Some f ≡ None → ⊥
-some_none f h = let z : ◌≡◌ {A = ℕ} 0 1 = cc in omega arith
+some_none f h = cc
 
 -- what `serving` tells
 pub serving_some : (l : Layout) (service : List Bool) (k : ℕ) (e : ℕ × ℕ) → Some e ≡ serving_ends l service k → (get_or service k false ≡ true) × (ends_at l k ≡ e)
@@ -154,7 +154,7 @@ rows_skipped l service rows k none r = record {
 }
   where
     true_false : true ≡ false → ⊥
-    true_false h = let z : ◌≡◌ {A = ℕ} 0 1 = cc in omega arith
+    true_false h = cc
 
 -- all couplers
 pub rows_show : (l : Layout) (service : List Bool) (rows : List ℕ) (k : ℕ) → Sound l → length l.couplers ≤ k → Rows l service rows k

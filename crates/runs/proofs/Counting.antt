@@ -17,18 +17,18 @@ outs_set (l ∷ ls) (suc k) v d h = let e = outs_set ls k v d (le_of_suc-le-suc 
 
 -- a last call that is not the default stands within the list
 in_within : (ls : List Last) (k : ℕ) → record_by (get_or ls k written_off) ≡ In → k < length ls
-in_within [] k e = let z : ◌≡◌ {A = ℕ} 0 1 = cc in absurd (omega arith)
+in_within [] k e = absurd cc
 in_within (r ∷ rs) zero e = omega arith
 in_within (r ∷ rs) (suc k) e = let h = in_within rs k e in omega arith
 
 taken_within : (ls : List Last) (k : ℕ) → get_or ls k written_off ≡ taken_out → k < length ls
-taken_within [] k e = let z : ◌≡◌ {A = ℕ} 0 1 = cc in absurd (omega arith)
+taken_within [] k e = absurd cc
 taken_within (r ∷ rs) zero e = omega arith
 taken_within (r ∷ rs) (suc k) e = let h = taken_within rs k e in omega arith
 
 in_none_out : (l : Last) → record_by l ≡ In → out_one l ≡ 0
 in_none_out never e = refl
-in_none_out taken_out e = let z : ◌≡◌ {A = ℕ} 0 1 = cc in absurd (omega arith)
+in_none_out taken_out e = absurd cc
 in_none_out given_back e = refl
 in_none_out written_off e = refl
 

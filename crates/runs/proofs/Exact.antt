@@ -64,15 +64,15 @@ reaches t h gs at ti pu =
     }
 
 says_none : {t u : State} {buffer left : List ℕ} {r : Result ℕ SessionFault} → Flush t buffer r u left → r ≡ Err Unreachable → PlanLess t
-says_none (other_size z) e = let k : ◌≡◌ {A = ℕ} 0 1 = cc in absurd (omega arith)
-says_none (short z l) e = let k : ◌≡◌ {A = ℕ} 0 1 = cc in absurd (omega arith)
+says_none (other_size z) e = absurd cc
+says_none (short z l) e = absurd cc
 says_none (unreachable z l none) e = none
-says_none (too_many count new es z l plan a) e = let k : ◌≡◌ {A = ℕ} 0 1 = cc in absurd (omega arith)
-says_none (plays count new es z l plan a) e = let k : ◌≡◌ {A = ℕ} 0 1 = cc in absurd (omega arith)
+says_none (too_many count new es z l plan a) e = absurd cc
+says_none (plays count new es z l plan a) e = absurd cc
 
 none_says : {t u : State} {buffer left : List ℕ} {r : Result ℕ SessionFault} → sized t ≡ true → room t.session.places ≤ length buffer
     → Flush t buffer r u left → PlanLess t → r ≡ Err Unreachable
-none_says y b (other_size z) void = let k : ◌≡◌ {A = ℕ} 0 1 = cc in absurd (omega arith)
+none_says y b (other_size z) void = absurd cc
 none_says y b (short z l) void = absurd (omega arith)
 none_says y b (unreachable z l n) void = refl
 none_says y b (too_many count new es z l plan a) void = absurd (void (gates_in es 0 count) new plan.reaches)
@@ -154,10 +154,10 @@ counted s buffer left new count same long p =
 
 carries_by : {s t : State} {buffer left : List ℕ} {r : Result ℕ SessionFault} (count : ℕ) → length s.machine.words ≡ s.session.places → length left ≡ length buffer
     → Flush s buffer r t left → r ≡ Ok count → Carries s t count
-carries_by count long same (other_size z) e = let k : ◌≡◌ {A = ℕ} 0 1 = cc in absurd (omega arith)
-carries_by count long same (short z l) e = let k : ◌≡◌ {A = ℕ} 0 1 = cc in absurd (omega arith)
-carries_by count long same (unreachable z l none) e = let k : ◌≡◌ {A = ℕ} 0 1 = cc in absurd (omega arith)
-carries_by count long same (too_many c new es z l plan a) e = let k : ◌≡◌ {A = ℕ} 0 1 = cc in absurd (omega arith)
+carries_by count long same (other_size z) e = absurd cc
+carries_by count long same (short z l) e = absurd cc
+carries_by count long same (unreachable z l none) e = absurd cc
+carries_by count long same (too_many c new es z l plan a) e = absurd cc
 carries_by {s} {t} {buffer} {left} count long same (plays c new es z l plan a) e =
     let k : c ≡ count = cc in
     record {

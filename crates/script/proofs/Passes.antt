@@ -11,7 +11,7 @@ pass_of (Ok a) p = p
 pass_of (Err e) p = e.1
 
 came_back : (f : Option SessionFault) (p q : Pass) (x : SessionFault) → Err (x, q) ≡ returned f p → q ≡ p
-came_back None p q x e = let z : ◌≡◌ {A = ℕ} 0 1 = cc in absurd (omega arith)
+came_back None p q x e = absurd cc
 came_back (Some f) p q x e = ap (λ (r : Result (Unit {0}) (SessionFault × Pass)). pass_of r p) e
 
 pub restored : (h : Slots) (slot : ℕ) (o : Option Pass) (f : Option SessionFault) (p q : Pass) (x : SessionFault) → get_or h slot None ≡ Some p → Err (x, q) ≡ returned f p

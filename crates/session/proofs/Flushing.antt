@@ -35,14 +35,14 @@ size_passed s r h ok = by (cases_Bool (sized s))
   where
     by : (sized s ≡ true) ⊎ (sized s ≡ false) → sized s ≡ true
     by (inl t) = t
-    by (inr f) = let k = size_by s false r f h in let z : ◌≡◌ {A = ℕ} 0 1 = cc in absurd (omega arith)
+    by (inr f) = let k = size_by s false r f h in absurd cc
 
 pub flush_other_size : (s : State) (buffer : List ℕ) (r : Result (Unit {0}) SessionFault) (f : SessionFault) → r ≡ answered (size_fault s) tt → r ≡ Err f
     → Flush s buffer (Err f) s buffer
 flush_other_size s buffer r f h bad = by (cases_Bool (sized s))
   where
     by : (sized s ≡ true) ⊎ (sized s ≡ false) → Flush s buffer (Err f) s buffer
-    by (inl t) = let k = size_by s true r t h in let z : ◌≡◌ {A = ℕ} 0 1 = cc in absurd (omega arith)
+    by (inl t) = let k = size_by s true r t h in absurd cc
     by (inr e) = let k = size_by s false r e h in let q : f ≡ SizeMismatch = cc in subst (λ (x : SessionFault). Flush s buffer (Err x) s buffer) (sym q) (other_size e)
 
 -- ---- what the planner answered
@@ -53,7 +53,7 @@ pub long_enough : (n len : ℕ) (Sizes : Type 0) (r : Result Planned PlanFault) 
 long_enough n len Sizes r p short_exactly sizes ok = by (cases_lt len (room n))
   where
     by : (len < room n) ⊎ (room n ≤ len) → room n ≤ len
-    by (inl lt) = let e = (short_exactly (room n)).1 (sizes, lt, refl) in let z : ◌≡◌ {A = ℕ} 0 1 = cc in absurd (omega arith)
+    by (inl lt) = let e = (short_exactly (room n)).1 (sizes, lt, refl) in absurd cc
     by (inr le) = le
 
 pub planned_for : (s : State) (n : ℕ) (before after : List ℕ) (p : Planned) → sized s ≡ true → n ≡ s.session.places → room n ≤ length before

@@ -24,9 +24,9 @@ returns-then-all_single c =
     record {
       planned = λ k e. (let z : 0 ≡ k = cc in
           subst (Planned c.args.adj.now c.args.wanted.now c.args.wanted.now c.args.duals.now c.args.duals.now c.args.out.now c.args.out.now) z p);
-      refused = λ e. absurd (let z : ◌≡◌ {A = ℕ} 0 1 = cc in omega arith);
+      refused = λ e. absurd cc;
       exact = planned_exact c.args.adj.now c.args.wanted.now c.args.wanted.now c.args.duals.now c.args.duals.now c.args.out.now c.args.out.now 0 p;
-      nothing_touched = λ e. absurd (let z : ◌≡◌ {A = ℕ} 0 1 = cc in omega arith);
+      nothing_touched = λ e. absurd cc;
     }
 
 -- the first set that straddles, where one was found
@@ -53,7 +53,7 @@ returns-then-is_some c =
     let s = c.first_straddling.ensures.straddles w f.1 in
     let no_way = straddling_refused c.args.adj.now c.args.wanted.now c.requires.graph (w, subst (λ (m : ℕ). w < m) c.requires.lengths.0 s.below, s.straddles) in
     record {
-      planned = λ k e. absurd (let z : ◌≡◌ {A = ℕ} 0 1 = cc in omega arith);
+      planned = λ k e. absurd cc;
       refused = λ _. no_way;
       exact = refused_exact c.args.adj.now c.args.wanted.now no_way;
       nothing_touched = λ _. (refl, refl, refl);
@@ -145,7 +145,7 @@ returns c =
     record {
       planned = λ k e. (let z : at ≡ k = cc in
           subst (Planned adj xs c.loop-w.wanted c.args.duals.now c.loop-w.duals c.args.out.now c.loop-w.out) z p);
-      refused = λ e. absurd (let z : ◌≡◌ {A = ℕ} 0 1 = cc in omega arith);
+      refused = λ e. absurd cc;
       exact = planned_exact adj xs c.loop-w.wanted c.args.duals.now c.loop-w.duals c.args.out.now c.loop-w.out at p;
-      nothing_touched = λ e. absurd (let z : ◌≡◌ {A = ℕ} 0 1 = cc in omega arith);
+      nothing_touched = λ e. absurd cc;
     }

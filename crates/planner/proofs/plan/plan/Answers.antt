@@ -59,13 +59,13 @@ returns c =
       planned = λ p e. subst (λ (z : Planned). (z.places.n ≡ a.n) × PlanFor a c.args.block.now c.args.places.now c.args.out.now c.plan_lists.new.out z.gates (places_of z.places))
           (ok_same e) (refl, found);
       unreachable_exactly = (
-        (λ e. absurd (let z : ◌≡◌ {A = ℕ} 0 1 = cc in omega arith)),
+        (λ e. absurd cc),
         (λ t. absurd (t.2 (gates_in c.plan_lists.new.out 0 c.in-Some.gates) (take a.n c.plan_lists.new.new) found.reaches)),
       );
-      needs_two_islands = λ e. absurd (let z : ◌≡◌ {A = ℕ} 0 1 = cc in omega arith);
-      short_exactly = λ needed. ((λ e. absurd (let z : ◌≡◌ {A = ℕ} 0 1 = cc in omega arith)), (λ t. absurd (let h = t.1 in omega arith)));
-      mismatch_exactly = ((λ e. absurd (let z : ◌≡◌ {A = ℕ} 0 1 = cc in omega arith)), (λ no. absurd (no (s.0, s.1))));
-      refused_untouched = λ f e. absurd (let z : ◌≡◌ {A = ℕ} 0 1 = cc in omega arith);
+      needs_two_islands = λ e. absurd cc;
+      short_exactly = λ needed. ((λ e. absurd cc), (λ t. absurd (let h = t.1 in omega arith)));
+      mismatch_exactly = ((λ e. absurd cc), (λ no. absurd (no (s.0, s.1))));
+      refused_untouched = λ f e. absurd cc;
     }
 
 pub returns-in_default : goal.returns-in_default
@@ -76,10 +76,10 @@ returns-in_default c =
     let none = subst (λ (m : ℕ). NoPlan (OnEdge (neighbours_of a)) m (words_of c.args.block.now) (places_of c.args.places.now))
     (neighbours_length a) (c.plan_lists.ensures.unreachable c.in_default.is) in
     record {
-      planned = λ p e. absurd (let z : ◌≡◌ {A = ℕ} 0 1 = cc in omega arith);
+      planned = λ p e. absurd cc;
       unreachable_exactly = ((λ _. ((s.0, s.1), enough, none)), (λ _. refl));
       needs_two_islands = λ _. c.plan_lists.ensures.needs_two_islands c.in_default.is;
-      short_exactly = λ needed. ((λ e. absurd (let z : ◌≡◌ {A = ℕ} 0 1 = cc in omega arith)), (λ t. absurd (let h = t.1 in omega arith)));
-      mismatch_exactly = ((λ e. absurd (let z : ◌≡◌ {A = ℕ} 0 1 = cc in omega arith)), (λ no. absurd (no (s.0, s.1))));
+      short_exactly = λ needed. ((λ e. absurd cc), (λ t. absurd (let h = t.1 in omega arith)));
+      mismatch_exactly = ((λ e. absurd cc), (λ no. absurd (no (s.0, s.1))));
       refused_untouched = λ f e. c.plan_lists.ensures.untouched c.in_default.is;
     }

@@ -45,9 +45,9 @@ returns c =
     record {
       planned = λ j z. (let q : k ≡ j = cc in
           subst (λ (m : ℕ). PlanIn (OnEdge adj) n ws old c.args.out.now c.plan.new.out m (take n c.lowest_of_each.new.at)) q found);
-      unreachable = λ z. absurd (let q : ◌≡◌ {A = ℕ} 0 1 = cc in omega arith);
-      needs_two_islands = λ z. absurd (let q : ◌≡◌ {A = ℕ} 0 1 = cc in omega arith);
-      untouched = λ z. absurd (let q : ◌≡◌ {A = ℕ} 0 1 = cc in omega arith);
+      unreachable = λ z. absurd cc;
+      needs_two_islands = λ z. absurd cc;
+      untouched = λ z. absurd cc;
     }
 
 pub returns-in_err-gates : goal.returns-in_err-gates
@@ -56,7 +56,7 @@ returns-in_err-gates c =
     let e = c.carry_both.ensures.wanted in
     let refused = subst (Refused adj) e (c.plan.ensures.refused c.in_err-gates.was) in
     record {
-      planned = λ j z. absurd (let q : ◌≡◌ {A = ℕ} 0 1 = cc in omega arith);
+      planned = λ j z. absurd cc;
       unreachable = λ _. refused_none (length adj) c.args.words.now c.args.old.now c.requires.placed c.requires.below adj c.requires.graph refl refused;
       needs_two_islands = λ _. refused_some (length adj) c.args.words.now c.args.old.now c.requires.placed c.requires.below adj refused;
       untouched = λ _. (c.plan.ensures.nothing_touched c.in_err-gates.was).2;

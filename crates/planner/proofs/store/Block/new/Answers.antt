@@ -27,5 +27,5 @@ pub returns : goal.returns
 returns c = record {
   some = λ b e. subst (λ (z : Block). (z.n ≡ c.args.n) × (words_of z ≡ fresh c.args.n)) (some_same e)
       (refl, ap (take c.args.n) c.fresh_words.ensures ∙ take_fresh 64 c.args.n (omega arith));
-  none = λ e. absurd (let z : ◌≡◌ {A = ℕ} 0 1 = cc in omega arith);
+  none = λ e. absurd cc;
 }

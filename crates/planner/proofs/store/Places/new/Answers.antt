@@ -8,5 +8,5 @@ pub returns : goal.returns
 returns c = record {
   some = λ p e. subst (λ (z : Places). (z.n ≡ c.args.n) × ((w : ℕ) → w < c.args.n → get_or (places_of z) w 0 ≡ w)) (some_same e)
       (refl, (λ w h. get_or-take c.args.n c.own_numbers.result w 0 h ∙ c.own_numbers.ensures w (omega arith)));
-  none = λ e. absurd (let z : ◌≡◌ {A = ℕ} 0 1 = cc in omega arith);
+  none = λ e. absurd cc;
 }
