@@ -70,6 +70,7 @@ impl LiveGraph<'_> {
 
     // Brings the set `word` to root, along neighbours inside live. Writes the gates into out from `at` on,
     // and returns where they end.
+    // Kept: one buffer takes all gates, and the contracts say where in it those of each call begin and end.
     pub fn bring(&self, root: usize, word: u64, out: &mut [u16], at: usize) -> usize
         requires inside { root < length self.now.rows.now }
         requires some { word ≢ 0 }
@@ -93,6 +94,7 @@ impl LiveGraph<'_> {
 
 // Gathers the set `word` into the root of a tree, from the last place of the order up.
 // Writes the gates into out from `at` on, and returns where they end.
+// Kept: the place in the buffer stays beside the buffer, as in `bring`.
 pub fn gather(order: &[usize], parent: &[usize], word: u64, out: &mut [u16], at: usize) -> usize
     requires some { (0 < length order.now) × (word ≢ 0) }
     requires places { (PlacesBelow order.now (length parent.now)) × (length parent.now ≤ 64) }
@@ -115,6 +117,7 @@ pub fn gather(order: &[usize], parent: &[usize], word: u64, out: &mut [u16], at:
 
 // Clears place u of the set x through its neighbour p. Writes the gates into out from k on,
 // and returns what is left of the set and where the gates end.
+// Kept: the place in the buffer stays beside the buffer, as in `bring`.
 fn settle(u: usize, p: usize, x: u64, out: &mut [u16], k: usize) -> (u64, usize)
     requires places { (u < 64) × (p < 64) }
     requires apart { u ≢ p }

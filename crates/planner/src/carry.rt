@@ -2,44 +2,43 @@
 ghost use Rattle.std.specs.Prelude.{◌≡◌, ℕ, ◌<◌, ◌≤◌, map, length, slice_index};
 ghost use Rattle.parity.specs.Placements.{wires_to_places};
 ghost use Rattle.planner.specs.Plans.{Lowest};
+ghost use Rattle.planner.specs.Views.{places_of};
 
+use crate::store::Places;
 use parity::sets::{flip, has, lowest};
 
 // The places of the wires in each word and in each dual word.
 pub(crate) fn carry_both(
     words: &[u64],
     duals: &[u64],
-    at: &[usize],
+    places: &Places,
     wanted: &mut [u64],
     against: &mut [u64],
 )
     requires lengths { (length words.now ≡ length wanted.old) × ((length duals.now ≡ length against.old) × (length words.now ≡ length duals.now)) }
-    requires places { (((w : ℕ) → w < length at.now → slice_index at.now w < 64)) × (length at.now ≤ 64) }
-    ensures wanted { wanted.new ≡ map (wires_to_places at.now) words.now }
-    ensures against { against.new ≡ map (wires_to_places at.now) duals.now }
+    ensures wanted { wanted.new ≡ map (wires_to_places (places_of places.now)) words.now }
+    ensures against { against.new ≡ map (wires_to_places (places_of places.now)) duals.now }
 {
-    carry_to_places(words, at, wanted);
-    carry_to_places(duals, at, against);
+    carry_to_places(words, places, wanted);
+    carry_to_places(duals, places, against);
 }
 
 // The places of the wires in each word: what a wire wants at its new place.
-pub(crate) fn carry_to_places(words: &[u64], at: &[usize], sets: &mut [u64])
+pub(crate) fn carry_to_places(words: &[u64], places: &Places, sets: &mut [u64])
     requires lengths { length words.now ≡ length sets.old }
-    requires places { (((w : ℕ) → w < length at.now → slice_index at.now w < 64)) × (length at.now ≤ 64) }
-    ensures { sets.new ≡ map (wires_to_places at.now) words.now }
+    ensures { sets.new ≡ map (wires_to_places (places_of places.now)) words.now }
 {
     for (w, word) in words.iter().enumerate() {
-        sets[w] = places_of_wires(*word, at);
+        sets[w] = places_of_wires(*word, places);
     }
 }
 
 // The places of the wires in x.
-fn places_of_wires(x: u64, at: &[usize]) -> u64
-    requires places { (((w : ℕ) → w < length at.now → slice_index at.now w < 64)) × (length at.now ≤ 64) }
-    ensures { result ≡ wires_to_places at.now x }
+fn places_of_wires(x: u64, places: &Places) -> u64
+    ensures { result ≡ wires_to_places (places_of places.now) x }
 {
     let mut set = 0;
-    for (w, place) in at.iter().enumerate() {
+    for (w, place) in places.at[..places.n].iter().enumerate() {
         if has(x, w) {
             set = flip(set, *place);
         }

@@ -26,6 +26,7 @@ pub struct Planned {
 
 // Writes gates between neighbours to the front of out, each as 64 x control + target, that bring each word of the block
 // to a place of its own. Refused, nothing is touched.
+// Kept: the block and the placement come apart, since two sizes that differ are a refusal of this call.
 pub fn plan(
     adjacency: &Adjacency,
     block: &Block,
@@ -54,7 +55,7 @@ pub fn plan(
         &adjacency.rows[..n],
         &block.words[..block.n],
         &block.duals[..block.n],
-        &places.at[..places.n],
+        places,
         &mut wanted[..n],
         &mut against[..n],
         &mut at,
@@ -88,7 +89,7 @@ fn plan_lists(
     adj: &[u64],
     words: &[u64],
     duals: &[u64],
-    old: &[usize],
+    old: &Places,
     wanted: &mut [u64],
     against: &mut [u64],
     new: &mut [usize],
@@ -101,11 +102,11 @@ fn plan_lists(
     requires below { (w : ℕ) → w < length adj.now → slice_index words.now w < 2 ^ length adj.now }
     requires duals_below { (w : ℕ) → w < length adj.now → slice_index duals.now w < 2 ^ length adj.now }
     requires paired { Paired (length adj.now) words.now duals.now }
-    requires placed { Placement (length adj.now) old.now }
+    requires placed { Placement (length adj.now) (places_of old.now) }
     requires room { (room (length adj.now) ≤ length out.old) × (length adj.now ≤ length new.old) }
-    ensures planned { (k : ℕ) → result ≡ Some k → PlanIn (OnEdge adj.now) (length adj.now) words.now old.now out.old out.new k (take (length adj.now) new.new) }
-    ensures unreachable { result ≡ None → NoPlan (OnEdge adj.now) (length adj.now) words.now old.now }
-    ensures needs_two_islands { result ≡ None → SomeStraddles adj.now words.now old.now }
+    ensures planned { (k : ℕ) → result ≡ Some k → PlanIn (OnEdge adj.now) (length adj.now) words.now (places_of old.now) out.old out.new k (take (length adj.now) new.new) }
+    ensures unreachable { result ≡ None → NoPlan (OnEdge adj.now) (length adj.now) words.now (places_of old.now) }
+    ensures needs_two_islands { result ≡ None → SomeStraddles adj.now words.now (places_of old.now) }
     ensures untouched { result ≡ None → out.new ≡ out.old }
 {
     carry_both(words, duals, old, wanted, against);

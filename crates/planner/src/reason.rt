@@ -32,21 +32,21 @@ pub fn first_on_two_islands<M: Machine>(
     first_in_lists(
         &adjacency.rows[..n],
         &block.words[..block.n],
-        &places.at[..places.n],
+        places,
         &mut wanted[..n],
     )
 }
 
 // The same as lists, with room for the wanted sets.
-fn first_in_lists(adj: &[u64], words: &[u64], at: &[usize], wanted: &mut [u64]) -> Option<usize>
+fn first_in_lists(adj: &[u64], words: &[u64], places: &Places, wanted: &mut [u64]) -> Option<usize>
     requires small { length adj.now ≤ 64 }
     requires graph { Graph adj.now }
     requires lengths { (length words.now ≡ length adj.now) × (length wanted.old ≡ length adj.now) }
     requires below { (w : ℕ) → w < length adj.now → slice_index words.now w < 2 ^ length adj.now }
-    requires placed { Placement (length adj.now) at.now }
-    ensures first { (w : ℕ) → result ≡ Some w → FirstStraddling adj.now (map (wires_to_places at.now) words.now) w }
-    ensures none { result ≡ None → (w : ℕ) → w < length adj.now → OneIsland adj.now (slice_index (map (wires_to_places at.now) words.now) w) }
+    requires placed { Placement (length adj.now) (places_of places.now) }
+    ensures first { (w : ℕ) → result ≡ Some w → FirstStraddling adj.now (map (wires_to_places (places_of places.now)) words.now) w }
+    ensures none { result ≡ None → (w : ℕ) → w < length adj.now → OneIsland adj.now (slice_index (map (wires_to_places (places_of places.now)) words.now) w) }
 {
-    carry_to_places(words, at, wanted);
+    carry_to_places(words, places, wanted);
     first_straddling(adj, wanted)
 }

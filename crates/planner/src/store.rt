@@ -4,6 +4,7 @@ ghost use Rattle.parity.specs.Sets.{bit};
 ghost use Rattle.parity.specs.Pairing.{dot};
 
 // For each of n places the set of its neighbours: others below n, which have it for a neighbour too.
+// Kept: an array with its length beside it, here and below, since a flush makes new ones and may ask for no memory.
 #[derive(Drop)]
 pub struct Adjacency {
     pub(crate) rows: [u64; 64],

@@ -26,6 +26,7 @@ pub fn next_wire(waiting: u64, wanted: &[u64], duals: &[u64]) -> Option<usize>
 }
 
 // A place of start's island that can go: the nearest to start that is found.
+// Kept: that edges stand at both ends is no part of the graph's type, since `island_of` does not ask it of its callers.
 pub fn root(graph: &LiveGraph<'_>, start: usize) -> usize
     requires graph { Graph graph.now.rows.now }
     requires inside { start < length graph.now.rows.now }

@@ -1,5 +1,5 @@
 // What is asked of wanted sets: whether they are single places, and whether they straddle islands.
-ghost use Rattle.std.specs.Prelude.{◌≡◌, ℕ, ◌^◌, ◌<◌, ◌≤◌, true, false, ◌≢◌, length, Some, None, bit_and, count_ones, slice_index};
+ghost use Rattle.std.specs.Prelude.{◌≡◌, ℕ, ◌-◌, ◌^◌, ◌<◌, ◌≤◌, true, false, ◌≢◌, length, Some, None, bit_and, count_ones, slice_index};
 ghost use Rattle.parity.specs.Sets.{bit};
 ghost use Rattle.rounds.specs.Ways.{Graph, OneIsland, Straddles};
 ghost use Rattle.rounds.specs.Plans.{AllSingle};
@@ -40,20 +40,20 @@ pub fn first_straddling(adj: &[u64], wanted: &[u64]) -> Option<usize>
     ensures straddles { (w : ℕ) → result ≡ Some w → FirstStraddling adj.now wanted.now w }
     ensures none { result ≡ None → (w : ℕ) → w < length wanted.now → OneIsland adj.now (slice_index wanted.now w) }
 {
-    wanted.iter().position(|x| straddles(adj, *x))
-}
-
-// Whether the set has two places with no way between them.
-fn straddles(adj: &[u64], x: u64) -> bool
-    requires small { length adj.now ≤ 64 }
-    requires graph { Graph adj.now }
-    ensures yes { result ≡ true → x < 2 ^ length adj.now → Straddles adj.now x }
-    ensures no { result ≡ false → x < 2 ^ length adj.now → OneIsland adj.now x }
-{
     let graph = LiveGraph {
         rows: adj,
         live: all_below(adj.len()),
     };
+    wanted.iter().position(|x| straddles(&graph, *x))
+}
+
+// Whether the set has two places with no way between them, in a graph whose places are all live.
+fn straddles(graph: &LiveGraph<'_>, x: u64) -> bool
+    requires graph { Graph graph.now.rows.now }
+    requires all_live { graph.now.live ≡ 2 ^ length graph.now.rows.now - 1 }
+    ensures yes { result ≡ true → x < 2 ^ length graph.now.rows.now → Straddles graph.now.rows.now x }
+    ensures no { result ≡ false → x < 2 ^ length graph.now.rows.now → OneIsland graph.now.rows.now x }
+{
     match lowest(x & graph.live) {
         Some(q) => off_island(x, graph.live, graph.island_of(q)) != 0,
         None => false,

@@ -13,6 +13,7 @@ use session::store::Session;
 use session_fault::SessionFault;
 
 // Makes the call that the order asks for, if its slot allows one, and answers what came of it.
+// Kept: session, machine, slots and buffer come apart, here and in `run`, since each call borrows only some of them.
 pub fn act<M: Machine>(
     session: &mut Session,
     machine: &mut M,
@@ -105,6 +106,8 @@ fn give_from<M: Machine>(
     }
 }
 
+// Kept: alike to `give_from`, but for a call that only reads the machine. A closure for the call would write the session through
+// a capture, of which a proof knows nothing afterwards.
 fn write_from<M: Machine>(
     session: &mut Session,
     machine: &M,

@@ -1,4 +1,4 @@
-use Rattle.std.proofs.Common.{◌≡◌, ℕ, ◌^◌, ◌<◌, List, map, length, get_or, take, sym, refl, ap, ◌∙◌, subst, arith}
+use Rattle.std.proofs.Common.{◌≡◌, ℕ, ◌^◌, ◌<◌, List, map, length, get_or, take, sym, refl, ap, ◌∙◌, subst}
 use Rattle.std.proofs.lemmas.List.{length-map}
 use Rattle.parity.specs.Placements.{wires_to_places}
 use Rattle.islands.specs.Graphs.{OnEdge}
@@ -7,6 +7,7 @@ use Rattle.rounds.specs.Plans.{Planned}
 use Rattle.rounds.specs.Exactness.{Refused}
 use Rattle.planner.specs.Plans.{PlanIn}
 use Rattle.planner.proofs.Planning.{wanted_below, wanted_paired, planned_in, refused_none, refused_some}
+use Rattle.planner.specs.Views.{places_of}
 use Rattle.planner.proofs.plan.plan_lists.Goals as goal
 
 pub plan-requires : goal.plan-requires
@@ -14,7 +15,7 @@ plan-requires c =
     let n = length c.args.adj.now in
     let ws = c.args.words.now in
     let ds = c.args.duals.now in
-    let old = c.args.old.now in
+    let old = (places_of c.args.old.now) in
     let e = c.carry_both.ensures.wanted in
     let f = c.carry_both.ensures.against in
     record {
@@ -33,7 +34,7 @@ returns c =
     let adj = c.args.adj.now in
     let n = length adj in
     let ws = c.args.words.now in
-    let old = c.args.old.now in
+    let old = (places_of c.args.old.now) in
     let ys = c.plan.new.wanted in
     let e = c.carry_both.ensures.wanted in
     let k = c.in_ok-gates.gates in
@@ -57,7 +58,7 @@ returns-in_err-gates c =
     let refused = subst (Refused adj) e (c.plan.ensures.refused c.in_err-gates.was) in
     record {
       planned = λ j z. absurd cc;
-      unreachable = λ _. refused_none (length adj) c.args.words.now c.args.old.now c.requires.placed c.requires.below adj c.requires.graph refl refused;
-      needs_two_islands = λ _. refused_some (length adj) c.args.words.now c.args.old.now c.requires.placed c.requires.below adj refused;
+      unreachable = λ _. refused_none (length adj) c.args.words.now (places_of c.args.old.now) c.requires.placed c.requires.below adj c.requires.graph refl refused;
+      needs_two_islands = λ _. refused_some (length adj) c.args.words.now (places_of c.args.old.now) c.requires.placed c.requires.below adj refused;
       untouched = λ _. (c.plan.ensures.nothing_touched c.in_err-gates.was).2;
     }

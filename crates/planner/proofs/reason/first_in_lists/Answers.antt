@@ -4,13 +4,14 @@ use Rattle.parity.specs.Placements.{wires_to_places}
 use Rattle.rounds.specs.Ways.{OneIsland}
 use Rattle.rounds.specs.Exactness.{FirstStraddling}
 use Rattle.planner.proofs.Planning.{wanted_below}
+use Rattle.planner.specs.Views.{places_of}
 use Rattle.planner.proofs.reason.first_in_lists.Goals as goal
 
 pub first_straddling-requires : goal.first_straddling-requires
 first_straddling-requires c =
     let n = length c.args.adj.now in
     let ws = c.args.words.now in
-    let at = c.args.at.now in
+    let at = (places_of c.args.places.now) in
     let e = c.carry_to_places.ensures in
     let len : length c.carry_to_places.new.sets ≡ n = ap length e ∙ length-map ws (wires_to_places at) ∙ c.requires.lengths.0 in
     record {
@@ -23,7 +24,7 @@ pub returns : goal.returns
 returns c =
     let adj = c.args.adj.now in
     let ws = c.args.words.now in
-    let at = c.args.at.now in
+    let at = (places_of c.args.places.now) in
     let e = c.carry_to_places.ensures in
     let len : length c.carry_to_places.new.sets ≡ length adj = ap length e ∙ length-map ws (wires_to_places at) ∙ c.requires.lengths.0 in
     record {
