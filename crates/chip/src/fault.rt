@@ -1,7 +1,9 @@
 // Why a chip turns a call down.
 ghost use Rattle.std.specs.Prelude.{◌≡◌, Some};
 ghost use Rattle.chip.specs.Faults.{chip_refusal, chip_text};
+ghost use Rattle.chip.specs.declared.fault.ChipFault.TheVariants.{NoMemory as OutOfMemory};
 
+use std::alloc::AllocError;
 use std::fmt;
 
 #[derive(Clone, Copy, PartialEq, Eq, Debug)]
@@ -28,6 +30,15 @@ impl ChipFault {
     }
 }
 
+impl From<AllocError> for ChipFault {
+    ghost from_gives = { λ _ f. f ≡ OutOfMemory };
+
+    fn from(_: AllocError) -> ChipFault {
+        ChipFault::NoMemory
+    }
+}
+
+// Kept: callers' clauses say what is written, and thiserror's derive promises nothing of its text.
 impl fmt::Display for ChipFault {
     ghost output = { λ f. Some (chip_text f) };
 
