@@ -7,6 +7,7 @@ ghost use Rattle.chip.specs.Layout.{Layout, Sound, touches};
 ghost use Rattle.chip.specs.Chips.{ends_at, coupler_fault, joining, JoinsExactly};
 
 pub mod fault;
+pub mod on_chip;
 
 use fault::ChipFault;
 

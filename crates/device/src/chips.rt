@@ -46,14 +46,14 @@ impl Chip for AnyChip {
     fn couplers(&self) -> usize {
         match self {
             AnyChip::Grid(g) => couplers_of(g),
-            AnyChip::Mapped(m) => couplers_of(m),
+            AnyChip::Mapped(m) => m.couplers(),
         }
     }
 
     fn ends(&self, k: usize) -> Result<(usize, usize), ChipFault> {
         match self {
             AnyChip::Grid(g) => ends_of(g, k),
-            AnyChip::Mapped(m) => ends_of(m, k),
+            AnyChip::Mapped(m) => m.ends(k),
         }
     }
 }
