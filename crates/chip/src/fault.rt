@@ -48,8 +48,7 @@ impl fmt::Display for ChipFault {
             ChipFault::WrongLength => write!(f, "refused 5: the map has the wrong length"),
             ChipFault::SizeOffLimits => write!(f, "refused 6: a size is out of range"),
             ChipFault::BadCoupler { coupler } => {
-                let k = *coupler;
-                write!(f, "refused 7: coupler {k} is no coupler of its own")
+                write!(f, "refused 7: coupler {coupler} is no coupler of its own")
             }
             ChipFault::NoMemory => write!(f, "refused 0: no memory"),
         }

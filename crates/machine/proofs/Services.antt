@@ -1,6 +1,5 @@
 -- Marks as the service of a chip's couplers.
-use Rattle.std.proofs.Common.{◌≡◌, ℕ, ◌<◌, Bool, true, false, length, get_or, take, set, replicate, sym, ap, ◌∙◌, arith, get_or-take}
-use lib.Seq.{take-set-lt}
+use Rattle.std.proofs.Common.{◌≡◌, true, length, take, replicate, ap, ◌∙◌, arith}
 use Rattle.std.proofs.lemmas.List.{length-take, take-replicate}
 use Rattle.chip.specs.Layout.{Layout, Sound}
 use Rattle.machine.specs.declared.marks.Marks.{Marks}

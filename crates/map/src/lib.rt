@@ -47,6 +47,7 @@ impl MappedChip {
     }
 
     // A second chip of the same layout.
+    // Kept: Clone is not derived over a ghost field, and by hand it would be no shorter.
     pub fn duplicate(&self, heap: Global) -> Result<MappedChip, ChipFault>
         ensures { MatchResult result (λ c. layout_of c ≡ layout_of self.now) (λ f. f ≡ OutOfMemory) }
     {
@@ -68,7 +69,7 @@ impl MappedChip {
 }
 
 // The m left ends, each with its right end; the right ends begin after them.
-// It has room for any chip's couplers, so that no memory is asked for before they are checked.
+// Kept: a fixed array, since no memory may be asked for before the couplers are checked.
 fn paired(ends: &[u8], m: usize) -> [(usize, usize); MOST]
     requires { (length ends.now ≡ 2 * m) × (m ≤ 256) }
     ensures room { length result ≡ 256 }

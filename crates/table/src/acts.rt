@@ -76,9 +76,7 @@ impl<C: Chip> Machine for TableMachine<C> {
 
     fn word(&self, q: usize) -> Result<u64, MachineFault> {
         let n = self.chip.width();
-        let word = self.words[..n]
-            .get(q)
-            .ok_or(MachineFault::PlaceOutOfRange)?;
+        let word = self.words[..n].get(q).ok_or(MachineFault::PlaceOutOfRange)?;
         Ok(*word & all_below(n))
     }
 
@@ -94,6 +92,7 @@ impl<C: Chip> Machine for TableMachine<C> {
         self.service.set(&self.chip, k, on)
     }
 
+    // Kept: the trait could share it only by a public method that asks its callers for a checked gate.
     fn cnot(&mut self, c: usize, t: usize) -> Result<(), MachineFault> {
         self.check_cnot(c, t)?;
         self.add_word(c, t);

@@ -115,6 +115,7 @@ impl<C: Chip> Machine for TapeMachine<C> {
         self.service.set(&self.chip, k, on)
     }
 
+    // Kept: the trait could share it only by a public method that asks its callers for a checked gate.
     fn cnot(&mut self, c: usize, t: usize) -> Result<(), MachineFault> {
         self.check_cnot(c, t)?;
         self.keep(c, t);

@@ -1,5 +1,4 @@
-use Rattle.std.proofs.Common.{◌≡◌, ◌-◌, get_or, set, None, Option, sym, ap, ◌∙◌}
-use lib.Bits.{bit_xor}
+use Rattle.std.proofs.Common.{◌≡◌, None, Option, sym, ap, ◌∙◌}
 use Rattle.chip.specs.Answers.{answered, kept}
 use Rattle.chip.proofs.Answers.{answered_ok}
 use Rattle.machine.specs.declared.fault.MachineFault.{MachineFault}

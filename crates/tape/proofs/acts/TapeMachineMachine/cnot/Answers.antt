@@ -1,4 +1,4 @@
-use Rattle.std.proofs.Common.{◌≡◌, ◌+◌, ◌*◌, ◌<◌, [], ◌∷◌, ◌++◌, None, vec_items, Option, sym, refl, ap, ◌∙◌, arith}
+use Rattle.std.proofs.Common.{◌≡◌, ◌<◌, None, Option, sym, refl, ap, ◌∙◌, arith}
 use Rattle.chip.specs.Answers.{answered, kept}
 use Rattle.chip.proofs.Answers.{answered_ok}
 use Rattle.machine.specs.declared.fault.MachineFault.{MachineFault}
