@@ -1,38 +1,8 @@
 -- The coupler that joins two places.
-use Rattle.std.proofs.Common.{◌≡◌, ℕ, zero, suc, ◌+◌, ◌<◌, ◌≤◌, Bool, true, false, cond, ◌&&◌, eqb, ◌⊎◌, List, [], ◌∷◌, length, get_or, drop, Some, None, Ok, Result, sym, refl, ap, ◌∙◌, ap₂, inl, inr, le_of_suc-le-suc, not-suc-le-zero, add-one, arith, drop-cons}
-use Rattle.std.proofs.lemmas.List.{at_drop_all}
-use Rattle.std.proofs.lemmas.Bool.{both_ways, and_parts, and_from, or_cases, or_left, or_right, cases_Bool, eqb-true, eq-eqb, lt-ltb}
-use Rattle.chip.specs.declared.fault.ChipFault.{ChipFault}
-use Rattle.chip.specs.declared.fault.ChipFault.TheVariants.{NoSuchCoupler}
-use Rattle.chip.specs.Answers.{answered}
+use Rattle.std.proofs.Common.{MatchOption, Option, ◌≡◌, ℕ, zero, suc, ◌+◌, ◌<◌, ◌≤◌, Bool, true, false, cond, ◌&&◌, eqb, ◌⊎◌, List, [], ◌∷◌, length, get_or, Some, None, sym, refl, ap, ◌∙◌, ap₂, inl, inr, le_of_suc-le-suc, not-suc-le-zero, arith}
+use Rattle.std.proofs.lemmas.Bool.{both_ways, and_parts, and_from, or_cases, or_left, or_right, cases_Bool, eqb-true, eq-eqb}
 use Rattle.chip.specs.Layout.{Layout, Sound, touches}
-use Rattle.chip.specs.Chips.{ends_at, coupler_fault, joining_from, joining, Joins, JoinsExactly}
-
--- ---- the loop of `joins`
-
-pub joining_from_step : (a b k : ℕ) (es : List (ℕ × ℕ)) → k < length es
-    → joining_from a b k (drop k es) ≡ cond (touches a b (get_or es k (0, 0))) (Some k) (joining_from a b (k + 1) (drop (k + 1) es))
-joining_from_step a b k es h =
-    ap (joining_from a b k) (drop-cons es k (0, 0) h ∙ ap (λ (i : ℕ). get_or es k (0, 0) ∷ drop i es) (sym (add-one k)))
-
-pub joining_from_done : (a b k : ℕ) (es : List (ℕ × ℕ)) → length es ≤ k → joining_from a b k (drop k es) ≡ None
-joining_from_done a b k es h = at_drop_all (joining_from a b k) es k h
-
--- a coupler below m has ends
-pub ends_known : (l : Layout) (k : ℕ) → k < length l.couplers → answered (coupler_fault l k) (ends_at l k) ≡ Ok (ends_at l k)
-ends_known l k h = ap (λ (w : Bool). answered (cond w None (Some NoSuchCoupler)) (ends_at l k)) (lt-ltb k (length l.couplers) h)
-
-same_ends : (r : Result (ℕ × ℕ) ChipFault) (p q : ℕ × ℕ) → r ≡ Ok p → r ≡ Ok q → p ≡ q
-same_ends r p q a b = cc
-
--- one coupler looked at
-pub joins_turn : (l : Layout) (a b k : ℕ) (e : ℕ × ℕ) (v : Bool) → k < length l.couplers
-    → Ok e ≡ answered (coupler_fault l k) (ends_at l k) → v ≡ touches a b e
-    → joining_from a b k (drop k l.couplers) ≡ cond v (Some k) (joining_from a b (k + 1) (drop (k + 1) l.couplers))
-joins_turn l a b k e v h answer test =
-    let same : e ≡ ends_at l k = same_ends (answered (coupler_fault l k) (ends_at l k)) e (ends_at l k) (sym answer) (ends_known l k h) in
-    let seen : touches a b (ends_at l k) ≡ v = sym (test ∙ ap (touches a b) same) in
-    joining_from_step a b k l.couplers h ∙ ap (λ (w : Bool). cond w (Some k) (joining_from a b (k + 1) (drop (k + 1) l.couplers))) seen
+use Rattle.chip.specs.Chips.{ends_at, joining_from, joining, Joins, JoinsExactly}
 
 -- ---- both ways
 
@@ -84,6 +54,22 @@ first a b j k [] lt t f = absurd (not-suc-le-zero lt)
 first a b j zero (e ∷ es) lt t f = rw t (ap Some (omega arith))
 first a b j (suc k) (e ∷ es) lt t f =
     rw (f 0 (omega arith)) (first a b (j + 1) k es (le_of_suc-le-suc lt) t (λ i l. f (suc i) (omega arith)) ∙ ap Some (omega arith))
+
+-- none is found where none touches
+none_touches : (a b j : ℕ) (es : List (ℕ × ℕ)) → ((k : ℕ) → k < length es → touches a b (get_or es k (0, 0)) ≡ false) → joining_from a b j es ≡ None
+none_touches a b j [] f = refl
+none_touches a b j (e ∷ es) f = rw (f 0 (omega arith)) (none_touches a b (j + 1) es (λ k h. f (suc k) (omega arith)))
+
+-- what a search of the couplers' numbers answers is the coupler that joins the places
+pub found_joining : (l : Layout) (a b m : ℕ) (r : Option ℕ) → m ≡ length l.couplers
+    → MatchOption r
+    ((k : ℕ) → 0 ≤ k → k < m → k < length l.couplers → touches a b (ends_at l k) ≡ false)
+    (λ k. (0 ≤ k) × (k < m) × (touches a b (ends_at l k) ≡ true) × ((i : ℕ) → 0 ≤ i → i < k → i < length l.couplers → touches a b (ends_at l i) ≡ false))
+    → r ≡ joining a b l.couplers
+found_joining l a b m None same none = sym (none_touches a b 0 l.couplers (λ k h. none k (omega arith) (omega arith) h))
+found_joining l a b m (Some k) same at =
+    let below = at.1 in
+    sym (first a b 0 k l.couplers (omega arith) at.2 (λ i h. at.3 i (omega arith) h (omega arith)) ∙ ap Some (omega arith))
 
 pub joining_joins : (l : Layout) (a b k : ℕ) → joining a b l.couplers ≡ Some k → Joins l a b k
 joining_joins l a b k h =

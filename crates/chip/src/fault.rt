@@ -1,7 +1,9 @@
 // Why a chip turns a call down.
 ghost use Rattle.std.specs.Prelude.{◌≡◌, Some};
 ghost use Rattle.chip.specs.Faults.{chip_refusal, chip_text};
+ghost use Rattle.chip.specs.declared.fault.ChipFault.TheVariants.{NoMemory as OutOfMemory};
 
+use std::alloc::AllocError;
 use std::fmt;
 
 #[derive(Clone, Copy, PartialEq, Eq, Debug)]
@@ -28,6 +30,15 @@ impl ChipFault {
     }
 }
 
+impl From<AllocError> for ChipFault {
+    ghost from_gives = { λ _ f. f ≡ OutOfMemory };
+
+    fn from(_: AllocError) -> ChipFault {
+        ChipFault::NoMemory
+    }
+}
+
+// Kept: callers' clauses say what is written, and thiserror's derive promises nothing of its text.
 impl fmt::Display for ChipFault {
     ghost output = { λ f. Some (chip_text f) };
 
@@ -37,8 +48,7 @@ impl fmt::Display for ChipFault {
             ChipFault::WrongLength => write!(f, "refused 5: the map has the wrong length"),
             ChipFault::SizeOffLimits => write!(f, "refused 6: a size is out of range"),
             ChipFault::BadCoupler { coupler } => {
-                let k = *coupler;
-                write!(f, "refused 7: coupler {k} is no coupler of its own")
+                write!(f, "refused 7: coupler {coupler} is no coupler of its own")
             }
             ChipFault::NoMemory => write!(f, "refused 0: no memory"),
         }

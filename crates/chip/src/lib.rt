@@ -7,6 +7,7 @@ ghost use Rattle.chip.specs.Layout.{Layout, Sound, touches};
 ghost use Rattle.chip.specs.Chips.{ends_at, coupler_fault, joining, JoinsExactly};
 
 pub mod fault;
+pub mod on_chip;
 
 use fault::ChipFault;
 
@@ -30,25 +31,18 @@ pub trait Chip {
     fn joins(&self, a: usize, b: usize) -> Option<usize>
         ensures { result ≡ joining a b (layout self.now).couplers }
     {
-        for k in 0..self.couplers() {
-            let Ok((left, right)) = self.ends(k) else {
-                return None;
-            };
-            if meets(a, b, left, right) {
-                return Some(k);
-            }
-        }
-        None
+        (0..self.couplers()).find(|&k| self.ends(k).is_ok_and(|ends| meets((a, b), ends)))
     }
 
     ghost sound: { (c : Self) → Sound (layout c) };
 }
 
-// Whether the ends left and right are the places a and b, in either order.
-pub fn meets(a: usize, b: usize, left: usize, right: usize) -> bool
-    ensures { result ≡ touches a b (left, right) }
+// Whether a coupler with these ends joins the two places, in either order.
+pub fn meets(places: (usize, usize), ends: (usize, usize)) -> bool
+    ensures { result ≡ touches places.0 places.1 ends }
 {
-    (left == a && right == b) || (left == b && right == a)
+    let (a, b) = places;
+    ends == (a, b) || ends == (b, a)
 }
 
 // On a sound layout `joins` answers k exactly when coupler k joins the two places.

@@ -1,7 +1,5 @@
 // A chip of either kind.
-ghost use Rattle.std.specs.Prelude.{◌≡◌, length, MatchResult};
-ghost use Rattle.chip.specs.Answers.{answered};
-ghost use Rattle.chip.specs.Chips.{coupler_fault, ends_at};
+ghost use Rattle.std.specs.Prelude.{◌≡◌, MatchResult};
 ghost use Rattle.chip.specs.declared.fault.ChipFault.TheVariants.{NoMemory as OutOfMemory};
 ghost use Rattle.device.specs.Chips.{any_layout, GridIsCopied};
 ghost use Rattle.device.specs.Laws.{any_sound};
@@ -19,6 +17,7 @@ pub enum AnyChip {
 }
 
 impl AnyChip {
+    // Kept: Clone is not derived, as a mapped chip has none.
     // A second chip of the same layout. Only a chip that was read from a map asks for memory.
     pub fn duplicate(&self, heap: Global) -> Result<AnyChip, ChipFault>
         ensures same_layout { MatchResult result (λ c. any_layout c ≡ any_layout self.now) (λ f. f ≡ OutOfMemory) }
@@ -31,6 +30,7 @@ impl AnyChip {
     }
 }
 
+// Kept: a `dyn Chip` may not be handed out, and a generic enum of two would not name its kinds.
 impl Chip for AnyChip {
     ghost layout = { any_layout };
 
@@ -45,28 +45,15 @@ impl Chip for AnyChip {
 
     fn couplers(&self) -> usize {
         match self {
-            AnyChip::Grid(g) => couplers_of(g),
-            AnyChip::Mapped(m) => couplers_of(m),
+            AnyChip::Grid(g) => g.couplers(),
+            AnyChip::Mapped(m) => m.couplers(),
         }
     }
 
     fn ends(&self, k: usize) -> Result<(usize, usize), ChipFault> {
         match self {
-            AnyChip::Grid(g) => ends_of(g, k),
-            AnyChip::Mapped(m) => ends_of(m, k),
+            AnyChip::Grid(g) => g.ends(k),
+            AnyChip::Mapped(m) => m.ends(k),
         }
     }
-}
-
-// Through the trait, so that what is known of the answer is what the trait says.
-fn couplers_of<C: Chip>(chip: &C) -> usize
-    ensures { result ≡ length (C.Chip.layout chip.now).couplers }
-{
-    chip.couplers()
-}
-
-fn ends_of<C: Chip>(chip: &C, k: usize) -> Result<(usize, usize), ChipFault>
-    ensures { result ≡ answered (coupler_fault (C.Chip.layout chip.now) k) (ends_at (C.Chip.layout chip.now) k) }
-{
-    chip.ends(k)
 }

@@ -1,11 +1,10 @@
 // A machine of either kind, on a chip of either kind.
 ghost use Rattle.std.specs.Prelude.{◌≡◌};
-ghost use Rattle.device.specs.Machines.{chip_layout, any_meaning};
-ghost use Rattle.device.specs.Laws.{machine_sound, machine_fits};
+ghost use Rattle.device.specs.Machines.{any_chip, any_meaning};
+ghost use Rattle.device.specs.Laws.{machine_fits};
 
 use crate::chips::AnyChip;
-use chip::Chip;
-use chip::fault::ChipFault;
+use chip::on_chip::OnChip;
 use machine::Machine;
 use machine::fault::MachineFault;
 use table::store::TableMachine;
@@ -17,33 +16,20 @@ pub enum AnyMachine {
     Tape(TapeMachine<AnyChip>),
 }
 
-impl Chip for AnyMachine {
-    ghost layout = { chip_layout };
+impl OnChip for AnyMachine {
+    type Inner = AnyChip;
 
-    ghost sound = { λ c. machine_sound c };
+    ghost inner = { any_chip };
 
-    fn width(&self) -> usize {
+    fn chip(&self) -> &AnyChip {
         match self {
-            AnyMachine::Table(m) => m.width(),
-            AnyMachine::Tape(m) => m.width(),
-        }
-    }
-
-    fn couplers(&self) -> usize {
-        match self {
-            AnyMachine::Table(m) => m.couplers(),
-            AnyMachine::Tape(m) => m.couplers(),
-        }
-    }
-
-    fn ends(&self, k: usize) -> Result<(usize, usize), ChipFault> {
-        match self {
-            AnyMachine::Table(m) => m.ends(k),
-            AnyMachine::Tape(m) => m.ends(k),
+            AnyMachine::Table(m) => m.chip(),
+            AnyMachine::Tape(m) => m.chip(),
         }
     }
 }
 
+// Kept: a `dyn Machine` may not be handed out, and a generic enum of two would not name its kinds.
 impl Machine for AnyMachine {
     ghost meaning = { any_meaning };
 
@@ -74,13 +60,6 @@ impl Machine for AnyMachine {
         match self {
             AnyMachine::Table(m) => m.set(k, on),
             AnyMachine::Tape(m) => m.set(k, on),
-        }
-    }
-
-    fn fits(&self, g: usize) -> Result<(), MachineFault> {
-        match self {
-            AnyMachine::Table(m) => m.fits(g),
-            AnyMachine::Tape(m) => m.fits(g),
         }
     }
 

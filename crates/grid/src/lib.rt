@@ -34,16 +34,11 @@ impl Chip for GridChip {
         self.rows * self.columns
     }
 
-    // By rows and columns here and in `ends`; the proof of the impl ties it to the layout.
-    fn couplers(&self) -> usize
-        ensures { result ≡ grid_couplers self.now.rows self.now.columns }
-    {
+    fn couplers(&self) -> usize {
         self.rows * (self.columns - 1) + (self.rows - 1) * self.columns
     }
 
-    fn ends(&self, k: usize) -> Result<(usize, usize), ChipFault>
-        ensures { result ≡ answered (grid_coupler_fault self.now.rows self.now.columns k) (grid_ends self.now.rows self.now.columns k) }
-    {
+    fn ends(&self, k: usize) -> Result<(usize, usize), ChipFault> {
         if k >= self.couplers() {
             return Err(ChipFault::NoSuchCoupler);
         }

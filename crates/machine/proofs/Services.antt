@@ -1,6 +1,5 @@
 -- Marks as the service of a chip's couplers.
-use Rattle.std.proofs.Common.{◌≡◌, ℕ, ◌<◌, Bool, true, false, length, get_or, take, set, replicate, sym, ap, ◌∙◌, arith, get_or-take}
-use lib.Seq.{take-set-lt}
+use Rattle.std.proofs.Common.{◌≡◌, true, length, take, replicate, ap, ◌∙◌, arith}
 use Rattle.std.proofs.lemmas.List.{length-take, take-replicate}
 use Rattle.chip.specs.Layout.{Layout, Sound}
 use Rattle.machine.specs.declared.marks.Marks.{Marks}
@@ -11,11 +10,3 @@ one_mark_each l m so = let a = so.at_most_256 in let b = m.room in let e = lengt
 
 pub all_in : (l : Layout) (m : Marks) → Sound l → m.marks ≡ replicate 256 true → service_of l m ≡ replicate (length l.couplers) true
 all_in l m so e = ap (take (length l.couplers)) e ∙ take-replicate (length l.couplers) 256 true so.at_most_256
-
--- the mark of a coupler of the chip
-pub mark_is : (l : Layout) (m : Marks) (k : ℕ) → k < length l.couplers → get_or m.marks k false ≡ get_or (service_of l m) k false
-mark_is l m k h = sym (get_or-take (length l.couplers) m.marks k false h)
-
-pub marked_is : (l : Layout) (m marked : Marks) (k : ℕ) (on : Bool) → k < length l.couplers → marked.marks ≡ set m.marks k on
-    → service_of l marked ≡ set (service_of l m) k on
-marked_is l m marked k on h e = ap (take (length l.couplers)) e ∙ take-set-lt (length l.couplers) m.marks k on h

@@ -30,6 +30,7 @@ impl MachineFault {
     }
 }
 
+// Kept: callers' clauses say what is written, and thiserror's derive promises nothing of its text.
 impl fmt::Display for MachineFault {
     ghost output = { λ f. Some (machine_text f) };
 
@@ -42,9 +43,7 @@ impl fmt::Display for MachineFault {
                 "refused 3: no coupler in service joins the two places"
             ),
             MachineFault::AllowanceExceeded { asked, left } => {
-                let g = *asked;
-                let a = *left;
-                write!(f, "refused 4: {g} gates asked, {a} left")
+                write!(f, "refused 4: {asked} gates asked, {left} left")
             }
             MachineFault::TapeTooLong => write!(f, "refused 8: a tape has at most 8192 entries"),
             MachineFault::NoMemory => write!(f, "refused 0: no memory"),

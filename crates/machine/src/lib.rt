@@ -38,7 +38,14 @@ pub trait Machine: Chip {
 
     // Whether g more gates are within the allowance.
     fn fits(&self, g: usize) -> Result<(), MachineFault>
-        ensures { result ≡ answered (fits_fault (meaning self.now) g) tt };
+        ensures { result ≡ answered (fits_fault (meaning self.now) g) tt }
+    {
+        let left = self.allowance();
+        if g > left {
+            return Err(MachineFault::AllowanceExceeded { asked: g, left });
+        }
+        Ok(())
+    }
 
     // Whether the CNOT with control c and target t would be obeyed.
     fn check_cnot(&self, c: usize, t: usize) -> Result<(), MachineFault>

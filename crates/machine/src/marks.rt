@@ -3,6 +3,7 @@ ghost use Rattle.std.specs.Prelude.{◌≡◌, length};
 
 #[derive(Drop)]
 pub struct Marks {
+    // Kept: no memory is asked for to make a machine on a table, and no chip has more couplers.
     pub(crate) marks: [bool; 256],
     ghost room: { length marks ≡ 256 },
 }

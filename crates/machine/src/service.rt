@@ -20,11 +20,10 @@ impl Marks {
     pub fn serves<C: Chip>(&self, chip: &C, k: usize) -> Result<bool, MachineFault>
         ensures { result ≡ answered (coupler_fault (C.Chip.layout chip.now) k) (slice_index_or (service_of (C.Chip.layout chip.now) self.now) k false) }
     {
-        if k < chip.couplers() {
-            Ok(self.mark(k))
-        } else {
-            Err(MachineFault::NoSuchCoupler)
-        }
+        self.marks[..chip.couplers()]
+            .get(k)
+            .copied()
+            .ok_or(MachineFault::NoSuchCoupler)
     }
 
     // Puts coupler k of the chip in service or takes it out.
@@ -35,21 +34,7 @@ impl Marks {
         if k >= chip.couplers() {
             return Err(MachineFault::NoSuchCoupler);
         }
-        self.mark_as(k, on);
-        Ok(())
-    }
-
-    fn mark(&self, at: usize) -> bool
-        requires { at < 256 }
-        ensures { result ≡ slice_index_or self.now.marks at false }
-    {
-        self.marks[at]
-    }
-
-    fn mark_as(&mut self, k: usize, on: bool)
-        requires { k < 256 }
-        ensures { self.new.marks ≡ slice_set self.old.marks k on }
-    {
         self.marks[k] = on;
+        Ok(())
     }
 }

@@ -1,69 +1,89 @@
--- What the bytes of a map file say, cut into left ends and right ends as the reader cuts them.
-use Rattle.std.proofs.Common.{◌≡◌, ℕ, ◌+◌, ◌-◌, ◌*◌, ◌<◌, ◌≤◌, List, length, get_or, take, drop, None, Ok, Err, Result, sym, refl, ap, ◌∙◌, ap₂, add_assoc, arith, MatchResult}
+-- What the bytes of a map file say, paired as the reader pairs them.
+use Rattle.std.proofs.Common.{◌≡◌, ℕ, zero, suc, ◌+◌, ◌-◌, ◌*◌, ◌<◌, ◌≤◌, ◌⊎◌, List, length, get_or, take, None, Ok, Err, Result, sym, ap, ◌∙◌, ap₂, add_assoc, inl, inr, arith, MatchResult}
+use denote.Param.Members.{Mut}
+use Rattle.std.specs.Array.{IsFromFnResultFrom}
+use Rattle.std.specs.Fn.{Called}
 use Rattle.std.specs.List.{between}
 use Rattle.std.proofs.lemmas.List.{get_or-take, get_or-drop, length-take-le, length-drop, take_rest}
-use Rattle.std.proofs.lemmas.Bool.{le-leb, eq-eqb}
+use Rattle.std.proofs.lemmas.List.FromFn.{fill_by_all}
+use Rattle.std.proofs.lemmas.Bool.{cases_lt, le-leb, eq-eqb}
 use Rattle.chip.specs.declared.fault.ChipFault.{ChipFault}
 use Rattle.chip.specs.declared.fault.ChipFault.TheVariants.{NoMemory}
-use Rattle.chip.specs.Layout.{Layout}
-use Rattle.map.specs.Couplers.{ends_in, layout_by, first_bad}
+use Rattle.chip.specs.Layout.{Layout, Sound}
+use Rattle.map.specs.Couplers.{layout_with, ends_in, first_bad}
 use Rattle.map.specs.File.{map_places, map_couplers, map_ends, map_layout, bad_fault, map_fault}
 use Rattle.map.specs.Chips.{layout_of, ReadAs}
 use Rattle.map.specs.declared.store.MappedChip.{MappedChip}
-use Rattle.map.specs.CouplersLemmas.{first_same, layout_same}
+use Rattle.map.specs.CouplersLemmas.{first_same, first_none, none_sound}
 
--- ---- the file in parts
+-- ---- an array made by a function that calls leave as it is
 
-pub record Halved (file left right : List ℕ) : Type 0 where
+module _ {F B : Type 0} (g : Mut F (ℕ × Unit {0}) B) (f : F) (h : ℕ → B) (pure : (x : ℕ) (y : B) (q : F) → Called g f (x, tt) y q → (q ≡ f) × (y ≡ h x)) where
+  pub made_at : (ys : List B) (d : B) (i n k : ℕ) → IsFromFnResultFrom g f ys i n → i ≤ k → k < i + n → get_or ys k d ≡ h k
+  made_at ys d i zero k each low high = absurd (omega arith)
+  made_at ys d i (suc n) k each low high =
+      by (cases_lt i k) (λ l. made_at ys d (i + 1) n k (rw here.0 at each.4) l (omega arith))
+    where
+      here : (each.0 ≡ f) × (each.1 ≡ h i)
+      here = pure i each.1 each.0 each.3
+
+      by : (i < k) ⊎ (k ≤ i) → (i + 1 ≤ k → get_or ys k d ≡ h k) → get_or ys k d ≡ h k
+      by (inl l) rest = rest (omega arith)
+      by (inr e) rest = let same : k ≡ i = omega arith in ap (λ (j : ℕ). get_or ys j d) same ∙ each.2.1 d ∙ here.1 ∙ ap h (sym same)
+
+-- ---- the couplers of a file
+
+-- the reader's room begins with the couplers of the file
+pub record Paired (file : List ℕ) (room : List (ℕ × ℕ)) : Type 0 where
   pub header : 3 ≤ length file
   pub whole : length (between 3 (length file) file) ≡ 2 * map_couplers file
-  pub left_is : left ≡ between 0 (map_couplers file) (between 3 (length file) file)
-  pub right_is : right ≡ between (map_couplers file) (length (between 3 (length file) file)) (between 3 (length file) file)
+  pub few : map_couplers file ≤ length room
+  pub ends : (k : ℕ) → k < map_couplers file
+      → get_or room k (0, 0) ≡ (get_or (between 3 (length file) file) k 0, get_or (between 3 (length file) file) (map_couplers file + k) 0)
 
--- all the bytes after the first three
-whole_length : (file : List ℕ) → 3 ≤ length file → length (between 3 (length file) file) ≡ 2 * map_couplers file → length file ≡ 3 + 2 * map_couplers file
-whole_length file h e = let d : length (between 3 (length file) file) ≡ length file - 3 = ap length (take_rest file 3) ∙ length-drop 3 file in omega arith
+module _ (file : List ℕ) (room : List (ℕ × ℕ)) (pairs : Paired file room) where
+  -- all the bytes after the first three
+  whole_length : length file ≡ 3 + 2 * map_couplers file
+  whole_length =
+      let d : length (between 3 (length file) file) ≡ length file - 3 = ap length (take_rest file 3) ∙ length-drop 3 file in
+      let h = pairs.header in let e = pairs.whole in omega arith
 
-module _ (file left right : List ℕ) (cut : Halved file left right) where
-  left_cut : left ≡ take (map_couplers file) (drop 3 file)
-  left_cut = let e : map_couplers file - 0 ≡ map_couplers file = omega arith in cut.left_is ∙ rw (e, take_rest file 3) refl
+  pub length_read : length (take (map_couplers file) room) ≡ map_couplers file
+  length_read = length-take-le (map_couplers file) room pairs.few
 
-  right_cut : right ≡ drop (map_couplers file) (drop 3 file)
-  right_cut = cut.right_is ∙ take_rest (between 3 (length file) file) (map_couplers file) ∙ ap (drop (map_couplers file)) (take_rest file 3)
-
-  rest_length : length (drop 3 file) ≡ 2 * map_couplers file
-  rest_length = ap length (sym (take_rest file 3)) ∙ cut.whole
-
-  pub left_length : length left ≡ map_couplers file
-  left_length = ap length left_cut ∙ length-take-le (map_couplers file) (drop 3 file) (omega (arith, rest_length))
-
-  pub right_length : length right ≡ map_couplers file
-  right_length = ap length right_cut ∙ length-drop (map_couplers file) (drop 3 file) ∙ (let e = rest_length in omega arith)
-
-  ends_same : (k : ℕ) → k < map_couplers file → ends_in left right k ≡ map_ends file k
+  ends_same : (k : ℕ) → k < map_couplers file → ends_in (take (map_couplers file) room) k ≡ map_ends file k
   ends_same k h =
-      let l : get_or left k 0 ≡ get_or file (3 + k) 0 =
-      ap (λ (xs : List ℕ). get_or xs k 0) left_cut ∙ get_or-take (map_couplers file) (drop 3 file) k 0 h ∙ get_or-drop 3 file k 0 in
-      let r : get_or right k 0 ≡ get_or file (3 + map_couplers file + k) 0 =
-      ap (λ (xs : List ℕ). get_or xs k 0) right_cut ∙ get_or-drop (map_couplers file) (drop 3 file) k 0 ∙ get_or-drop 3 file (map_couplers file + k) 0
-      ∙ ap (λ (i : ℕ). get_or file i 0) (sym (add_assoc 3 (map_couplers file) k)) in
-      ap₂ (λ (x y : ℕ). (x, y)) l r
+      let at : (i : ℕ) → get_or (between 3 (length file) file) i 0 ≡ get_or file (3 + i) 0 =
+      λ i. ap (λ (xs : List ℕ). get_or xs i 0) (take_rest file 3) ∙ get_or-drop 3 file i 0 in
+      get_or-take (map_couplers file) room k (0, 0) h
+      ∙ pairs.ends k h
+      ∙ ap₂ (λ (x y : ℕ). (x, y)) (at k)
+      (at (map_couplers file + k) ∙ ap (λ (i : ℕ). get_or file i 0) (sym (add_assoc 3 (map_couplers file) k)))
 
-  pub first_read : (n : ℕ) → first_bad n (length left) (ends_in left right) ≡ first_bad n (map_couplers file) (map_ends file)
-  first_read n = rw left_length (first_same n (map_couplers file) (ends_in left right) (map_ends file) ends_same)
+  first_read : (n : ℕ) → first_bad n (length (take (map_couplers file) room)) (ends_in (take (map_couplers file) room)) ≡ first_bad n (map_couplers file) (map_ends file)
+  first_read n = rw length_read (first_same n (map_couplers file) (ends_in (take (map_couplers file) room)) (map_ends file) ends_same)
 
-  pub layout_read : layout_by (map_places file) (length left) (ends_in left right) ≡ map_layout file
-  layout_read = rw left_length (layout_same (map_places file) (map_couplers file) (ends_in left right) (map_ends file) ends_same)
+  pub layout_read : layout_with (map_places file) (take (map_couplers file) room) ≡ map_layout file
+  layout_read = ap (layout_with (map_places file)) (fill_by_all (map_ends file) (take (map_couplers file) room) (map_couplers file) (0, 0) length_read ends_same)
 
   -- sizes within the limits, and so only a coupler can be at fault
-  pub fault_read : 1 ≤ map_places file → map_places file ≤ 64 → map_couplers file ≤ 256 → map_fault file ≡ bad_fault (first_bad (map_places file) (length left) (ends_in left right))
+  pub fault_read : 1 ≤ map_places file → map_places file ≤ 64 → map_couplers file ≤ 256
+      → map_fault file ≡ bad_fault (first_bad (map_places file) (length (take (map_couplers file) room)) (ends_in (take (map_couplers file) room)))
   fault_read some few m_few =
-      let long = le-leb 3 (length file) cut.header in
+      let long = le-leb 3 (length file) pairs.header in
       let a = le-leb 1 (map_places file) some in
       let b = le-leb (map_places file) 64 few in
       let d = le-leb (map_couplers file) 256 m_few in
-      let e = eq-eqb (length file) (3 + 2 * map_couplers file) (whole_length file cut.header cut.whole) in
+      let e = eq-eqb (length file) (3 + 2 * map_couplers file) whole_length in
       rw (long, a, b, d, e) (ap bad_fault (sym (first_read (map_places file))))
+
+  -- no coupler is bad, and so the layout is sound
+  pub sound_read : 1 ≤ map_places file → map_places file ≤ 64 → map_couplers file ≤ 256
+      → first_bad (map_places file) (length (take (map_couplers file) room)) (ends_in (take (map_couplers file) room)) ≡ None
+      → Sound (layout_with (map_places file) (take (map_couplers file) room))
+  sound_read some few m_few none =
+      none_sound (layout_with (map_places file) (take (map_couplers file) room)) some few (let e = length_read in omega arith)
+      (first_none (map_places file) (length (take (map_couplers file) room)) (ends_in (take (map_couplers file) room)) none)
 
 -- ---- the answer for a file without fault
 

@@ -1,6 +1,8 @@
 -- A test at the numbers below a bound: whether one passes, and which is the least.
 use Rattle.std.specs.Prelude.{◌≡◌, ℕ, zero, suc, ◌<◌, ◌≤◌, Bool, true, false, cond, ◌||◌, ◌⊎◌, Some, None, refl}
-use Rattle.std.proofs.Common.{sym, ap, ap₂, ◌∙◌, inl, inr, not-suc-le-zero, arith}
+use Rattle.std.proofs.Common.{Option, MatchOption, List, length, get_or, take, add-one, sym, ap, ap₂, ◌∙◌, inl, inr, not-suc-le-zero, arith}
+use Rattle.std.specs.List.{list_any}
+use Rattle.std.proofs.lemmas.List.Folds.{list_any_more}
 use Rattle.std.proofs.lemmas.Bool.{cases_lt, cases_Bool, both_ways, or_cases, or_parts, or_from, or_left, or_right}
 use Rattle.map.specs.Bounded.{any_below, or_else, least_below}
 
@@ -42,6 +44,13 @@ one_below p (suc n) h = by (or_cases (any_below p n) (p n) h) (one_below p n)
     by (inl b) before = let r = before b in (r.0, let l = r.1 in omega arith, r.2)
     by (inr e) before = (n, omega arith, e)
 
+-- whether one of the first n elements of a list passes
+pub any-take : {X : Type 0} (test : X → Bool) (xs : List X) (n : ℕ) (d : X) → n ≤ length xs → list_any test (take n xs) ≡ any_below (λ j. test (get_or xs j d)) n
+any-take test xs zero d h = refl
+any-take test xs (suc n) d h =
+    ap (λ (i : ℕ). list_any test (take i xs)) (sym (add-one n)) ∙ list_any_more test xs n d (omega arith)
+    ∙ ap (λ (b : Bool). b || test (get_or xs n d)) (any-take test xs n d (omega arith))
+
 -- ---- the least
 
 pub least_none : (p : ℕ → Bool) (n : ℕ) → ((k : ℕ) → k < n → p k ≡ false) → least_below p n ≡ None
@@ -58,6 +67,15 @@ least_is p (suc n) k l t f = by (last_or_before k n l) (λ b. least_is p n k b t
         let here : p n ≡ true = ap p (sym e) ∙ t in
         rw (before, here) (ap Some (sym e))
     by (inr b) earlier = rw (earlier b) refl
+
+-- what a search of the numbers below n answers
+pub least_found : (p : ℕ → Bool) (n : ℕ) (r : Option ℕ)
+    → MatchOption r
+    ((k : ℕ) → 0 ≤ k → k < n → p k ≡ false)
+    (λ k. (0 ≤ k) × (k < n) × (p k ≡ true) × ((j : ℕ) → 0 ≤ j → j < k → p j ≡ false))
+    → r ≡ least_below p n
+least_found p n None none = sym (least_none p n (λ k h. none k (omega arith) h))
+least_found p n (Some k) at = sym (least_is p n k at.1 at.2 (λ j h. at.3 j (omega arith) h))
 
 -- what `least_below` answers
 pub record Least (p : ℕ → Bool) (n k : ℕ) : Type 0 where

@@ -1,14 +1,14 @@
 -- A mapped chip is known by its layout; what a map file is answered with.
-use Rattle.std.specs.Prelude.{◌≡◌, ℕ, List, Some, None, Ok, Err, vec_items, vec_len, Result}
+use Rattle.std.specs.Prelude.{◌≡◌, ℕ, List, Some, None, Ok, Err, vec_items, Result}
 use Rattle.chip.specs.declared.fault.ChipFault.{ChipFault}
 use Rattle.chip.specs.declared.fault.ChipFault.TheVariants.{NoSuchCoupler, WrongLength, SizeOffLimits, BadCoupler, NoMemory}
 use Rattle.chip.specs.Layout.{Layout}
 use Rattle.map.specs.declared.store.MappedChip.{MappedChip}
-use Rattle.map.specs.Couplers.{ends_in, layout_by}
+use Rattle.map.specs.Couplers.{layout_with}
 use Rattle.map.specs.File.{map_fault, map_layout}
 
 abbrev pub layout_of : MappedChip → Layout
-layout_of c = layout_by c.places (vec_len c.left) (ends_in (vec_items c.left) (vec_items c.right))
+layout_of c = layout_with c.places (vec_items c.couplers)
 
 -- a file is refused for its own fault, or a good file for want of memory
 abbrev pub RefusedFor : List ℕ → ChipFault → Type 0

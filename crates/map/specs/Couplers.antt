@@ -1,18 +1,20 @@
 -- Couplers whose ends are given by number, and which of them is the first that no chip may have.
-use Rattle.std.specs.Prelude.{ℕ, Bool, cond, ◌||◌, List, map, Some, None, Option, ◌==◌, nat_le, nat_lt, slice_index}
+use Rattle.std.specs.Prelude.{ℕ, Bool, ◌||◌, List, map, Option, ◌==◌, nat_le, slice_index_or}
 use Rattle.std.specs.List.{range_with_len}
-use Rattle.chip.specs.declared.fault.ChipFault.{ChipFault}
-use Rattle.chip.specs.declared.fault.ChipFault.TheVariants.{NoSuchCoupler}
 use Rattle.chip.specs.Layout.{Layout, touches}
 use Rattle.map.specs.Bounded.{any_below, least_below}
 
--- the ends of each coupler, from the left ends and the right ends
-abbrev pub ends_in : List ℕ → List ℕ → ℕ → ℕ × ℕ
-ends_in left right k = (slice_index left k, slice_index right k)
+-- n places, and these couplers
+abbrev pub layout_with : ℕ → List (ℕ × ℕ) → Layout
+layout_with n es = record { places = n; couplers = es }
+
+-- the ends of each coupler
+abbrev pub ends_in : List (ℕ × ℕ) → ℕ → ℕ × ℕ
+ends_in es k = slice_index_or es k (0, 0)
 
 -- n places, and the couplers e 0 to e (m - 1)
 abbrev pub layout_by : ℕ → ℕ → (ℕ → ℕ × ℕ) → Layout
-layout_by n m e = record { places = n; couplers = map e (range_with_len 0 m) }
+layout_by n m e = layout_with n (map e (range_with_len 0 m))
 
 -- an earlier coupler joins the same two places, in either order
 abbrev pub repeated : (ℕ → ℕ × ℕ) → ℕ → Bool
@@ -27,7 +29,3 @@ any_bad n m e = any_below (bad_coupler n e) m
 
 abbrev pub first_bad : ℕ → ℕ → (ℕ → ℕ × ℕ) → Option ℕ
 first_bad n m e = least_below (bad_coupler n e) m
-
--- there are m couplers, and k is to be one of them
-abbrev pub number_fault : ℕ → ℕ → Option ChipFault
-number_fault m k = cond (nat_lt k m) None (Some NoSuchCoupler)

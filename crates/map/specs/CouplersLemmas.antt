@@ -1,14 +1,13 @@
 -- Bad couplers: that the test finds them, and that a layout without one is sound.
-use Rattle.std.specs.Prelude.{◌≡◌, ℕ, ◌<◌, ◌≤◌, true, false, ◌||◌, ◌⊎◌, List, map, length, None, Ok, ◌==◌, ◌≢◌, nat_le, refl}
+use Rattle.std.specs.Prelude.{◌≡◌, ℕ, ◌<◌, ◌≤◌, true, false, ◌||◌, ◌⊎◌, List, map, length, None, ◌==◌, ◌≢◌, nat_le, refl}
 use Rattle.std.proofs.Common.{sym, ap, ◌∙◌, inl, inr, arith}
 use Rattle.std.specs.List.{range_with_len}
 use Rattle.std.proofs.lemmas.List.FromFn.{length-map-range_with_len, get_or-map-range_with_len, fill_by_all}
-use Rattle.std.proofs.lemmas.Bool.{cases_lt, lt-ltb, le-ltb, lt-leb, leb-true, leb-false, ne_eqb, eqb-true, eqb-false, or_cases, or_parts, or_from, both_ways}
-use Rattle.chip.specs.Answers.{answered}
+use Rattle.std.proofs.lemmas.Bool.{lt-leb, leb-true, leb-false, ne_eqb, eqb-true, eqb-false, or_cases, or_parts, or_from, both_ways}
 use Rattle.chip.specs.Layout.{Layout, Sound, touches}
-use Rattle.chip.specs.Chips.{ends_at, coupler_fault}
+use Rattle.chip.specs.Chips.{ends_at}
 use Rattle.chip.proofs.Joining.{touches_true, true_touches}
-use Rattle.map.specs.Couplers.{layout_by, repeated, bad_coupler, any_bad, first_bad, number_fault}
+use Rattle.map.specs.Couplers.{layout_by, repeated, bad_coupler, any_bad, first_bad}
 use Rattle.map.specs.Laws.{Bad, left_off, right_off, loops, repeats}
 use Rattle.map.specs.BoundedLemmas.{none_passes, none_below, one_below, none_least, any_same, least_same}
 
@@ -43,15 +42,6 @@ layout_same n m e f same =
     ap (λ (es : List (ℕ × ℕ)). record { places = n; couplers = es })
     (fill_by_all f (map e (range_with_len 0 m)) m (0, 0) (length-map-range_with_len e 0 m) (λ k h. ends_by n m e k h ∙ same k h))
 
--- what is said of coupler k by the ends is what the layout says
-pub ends_answered : (n m : ℕ) (e : ℕ → ℕ × ℕ) (k : ℕ)
-    → answered (number_fault m k) (e k) ≡ answered (coupler_fault (layout_by n m e) k) (ends_at (layout_by n m e) k)
-ends_answered n m e k = by (cases_lt k m)
-  where
-    by : (k < m) ⊎ (m ≤ k) → answered (number_fault m k) (e k) ≡ answered (coupler_fault (layout_by n m e) k) (ends_at (layout_by n m e) k)
-    by (inl h) = rw (length_by n m e, lt-ltb k m h) (ap Ok (sym (ends_by n m e k h)))
-    by (inr h) = rw (length_by n m e, le-ltb k m h) refl
-
 -- ---- no coupler is bad exactly when the layout is sound
 
 not_bad : (n : ℕ) (e : ℕ → ℕ × ℕ) (k : ℕ) → bad_coupler n e k ≡ false → ((e k).0 < n) × ((e k).1 < n) × ((e k).0 ≢ (e k).1) × (repeated e k ≡ false)
@@ -67,7 +57,7 @@ is_good n e k l r d once =
     (or_from (nat_le n (e k).1) ((e k).0 == (e k).1 || repeated e k) (lt-leb n (e k).1 r)
     (or_from ((e k).0 == (e k).1) (repeated e k) (ne_eqb (e k).0 (e k).1 d) once))
 
-none_sound : (l : Layout) → 1 ≤ l.places → l.places ≤ 64 → length l.couplers ≤ 256
+pub none_sound : (l : Layout) → 1 ≤ l.places → l.places ≤ 64 → length l.couplers ≤ 256
     → any_bad l.places (length l.couplers) (ends_at l) ≡ false → Sound l
 none_sound l some few couplers none =
     let good = λ (k : ℕ) (h : k < length l.couplers). not_bad l.places (ends_at l) k (none_below (bad_coupler l.places (ends_at l)) (length l.couplers) none k h) in

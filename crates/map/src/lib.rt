@@ -2,14 +2,12 @@
 // then m left ends and m right ends, a byte each.
 #![tactic(auto)]
 
-ghost use Rattle.std.specs.Prelude.{◌≡◌, ◌≤◌, false, length, vec_len, MatchResult};
-ghost use Rattle.std.specs.List.{between};
-ghost use Rattle.chip.specs.Answers.{answered};
+ghost use Rattle.std.specs.Prelude.{◌≡◌, ◌+◌, ◌*◌, ◌<◌, ◌≤◌, ℕ, cond, nat_lt, length, slice_index, slice_index_or, MatchResult};
+ghost use Rattle.chip.specs.Layout.{Sound};
 ghost use Rattle.chip.specs.declared.fault.ChipFault.TheVariants.{NoMemory as OutOfMemory};
-ghost use Rattle.map.specs.Couplers.{ends_in, layout_by, any_bad, number_fault};
+ghost use Rattle.map.specs.Couplers.{layout_with};
 ghost use Rattle.map.specs.Chips.{layout_of, ReadAs};
 ghost use Rattle.map.specs.Laws.{SoundExactly, FirstBadExactly, SizeExactly, LengthExactly, NeverForMemory};
-ghost use Rattle.map.specs.CouplersLemmas.{none_bad_sound};
 
 mod check;
 pub mod store;
@@ -18,96 +16,97 @@ use check::first_bad;
 use chip::Chip;
 use chip::fault::ChipFault;
 use std::alloc::Global;
+use std::array;
 pub use store::MappedChip;
+
+// The most couplers that a chip may have.
+const MOST: usize = 256;
 
 impl MappedChip {
     // The chip that the file describes. Memory is asked for only once the file has passed every check.
     pub fn read(heap: Global, file: &[u8]) -> Result<MappedChip, ChipFault>
         ensures { ReadAs file.now result }
     {
-        match file {
-            [n, lo, hi, rest @ ..] => {
-                let places = *n as usize;
-                let m = *lo as usize + 256 * *hi as usize;
-                if places == 0 || places > 64 || m > 256 {
-                    return Err(ChipFault::SizeOffLimits);
-                }
-                if rest.len() != 2 * m {
-                    return Err(ChipFault::WrongLength);
-                }
-                let (left, right) = halves(rest, m);
-                if let Some(k) = first_bad(places, left, right) {
-                    return Err(ChipFault::BadCoupler { coupler: k });
-                }
-                copied(heap, places, left, right)
-            }
-            _ => Err(ChipFault::WrongLength),
+        let [n, low, high, rest @ ..] = file else {
+            return Err(ChipFault::WrongLength);
+        };
+        let places = *n as usize;
+        let m = *low as usize + 256 * *high as usize;
+        if places == 0 || places > 64 || m > MOST {
+            return Err(ChipFault::SizeOffLimits);
         }
+        if rest.len() != 2 * m {
+            return Err(ChipFault::WrongLength);
+        }
+        let room = paired(rest, m);
+        let couplers = &room[..m];
+        if let Some(k) = first_bad(places, couplers) {
+            return Err(ChipFault::BadCoupler { coupler: k });
+        }
+        MappedChip::with_couplers(heap, places, couplers)
     }
 
     // A second chip of the same layout.
+    // Kept: Clone is not derived over a ghost field, and by hand it would be no shorter.
     pub fn duplicate(&self, heap: Global) -> Result<MappedChip, ChipFault>
         ensures { MatchResult result (λ c. layout_of c ≡ layout_of self.now) (λ f. f ≡ OutOfMemory) }
     {
-        let (left, right) = (self.left.as_slice(), self.right.as_slice());
-        copied(heap, self.width(), left, right)
+        MappedChip::with_couplers(heap, self.places, self.couplers.as_slice())
+    }
+
+    // A chip with its own copy of couplers that have passed the checks.
+    fn with_couplers(
+        heap: Global,
+        places: usize,
+        couplers: &[(usize, usize)],
+    ) -> Result<MappedChip, ChipFault>
+        requires { Sound (layout_with places couplers.now) }
+        ensures { MatchResult result (λ c. layout_of c ≡ layout_with places couplers.now) (λ f. f ≡ OutOfMemory) }
+    {
+        let couplers = Vec::from_slice(heap, couplers)?;
+        Ok(MappedChip { places, couplers })
     }
 }
 
-// The m left ends, and the right ends, which begin after them.
-fn halves(ends: &[u8], m: usize) -> (&[u8], &[u8])
-    requires { m ≤ length ends.now }
-    ensures left { result.0.now ≡ between 0 m ends.now }
-    ensures right { result.1.now ≡ between m (length ends.now) ends.now }
+// The m left ends, each with its right end; the right ends begin after them.
+// Kept: a fixed array, since no memory may be asked for before the couplers are checked.
+fn paired(ends: &[u8], m: usize) -> [(usize, usize); MOST]
+    requires { (length ends.now ≡ 2 * m) × (m ≤ 256) }
+    ensures room { length result ≡ 256 }
+    ensures ends { (k : ℕ) → k < m → slice_index_or result k (0, 0) ≡ (slice_index ends.now k, slice_index ends.now (m + k)) }
 {
-    (&ends[0..m], &ends[m..])
-}
-
-// A chip with its own copy of ends that have passed the checks.
-fn copied(heap: Global, places: usize, left: &[u8], right: &[u8]) -> Result<MappedChip, ChipFault>
-    requires sizes { (1 ≤ places) × ((places ≤ 64) × (length left.now ≤ 256)) }
-    requires paired { length left.now ≤ length right.now }
-    requires none_bad { any_bad places (length left.now) (ends_in left.now right.now) ≡ false }
-    ensures { MatchResult result (λ c. layout_of c ≡ layout_by places (length left.now) (ends_in left.now right.now)) (λ f. f ≡ OutOfMemory) }
-{
-    let Ok(left) = Vec::from_slice(heap, left) else {
-        return Err(ChipFault::NoMemory);
-    };
-    let Ok(right) = Vec::from_slice(heap, right) else {
-        return Err(ChipFault::NoMemory);
-    };
-    Ok(MappedChip {
-        places,
-        left,
-        right,
-    })
+    array::from_fn(
+        |k|
+            requires { length ends.now ≡ 2 * m }
+            ensures { result ≡ cond (nat_lt k m) (slice_index ends.entry.now k, slice_index ends.entry.now (m + k)) (0, 0) }
+        {
+            if k < m {
+                (ends[k] as usize, ends[m + k] as usize)
+            } else {
+                (0, 0)
+            }
+        },
+    )
 }
 
 impl Chip for MappedChip {
     ghost layout = { layout_of };
 
-    ghost sound = { λ c.
-        none_bad_sound c.places (vec_len c.left) (ends_in c.left.items c.right.items)
-        c.some_place c.at_most_64 c.at_most_256 c.none_bad };
+    ghost sound = { λ c. c.sound };
 
     fn width(&self) -> usize {
         self.places
     }
 
-    // By the lists of ends here and in `ends`; the proof of the impl ties it to the layout.
-    fn couplers(&self) -> usize
-        ensures { result ≡ vec_len self.now.left }
-    {
-        self.left.len()
+    fn couplers(&self) -> usize {
+        self.couplers.len()
     }
 
-    fn ends(&self, k: usize) -> Result<(usize, usize), ChipFault>
-        ensures { result ≡ answered (number_fault (vec_len self.now.left) k) (ends_in self.now.left.items self.now.right.items k) }
-    {
-        if k >= self.left.len() {
-            return Err(ChipFault::NoSuchCoupler);
-        }
-        Ok((self.left[k] as usize, self.right[k] as usize))
+    fn ends(&self, k: usize) -> Result<(usize, usize), ChipFault> {
+        self.couplers
+            .get(k)
+            .copied()
+            .ok_or(ChipFault::NoSuchCoupler)
     }
 }
 

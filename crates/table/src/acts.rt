@@ -6,7 +6,7 @@ ghost use Rattle.table.specs.Tables;
 
 use crate::store::TableMachine;
 use chip::Chip;
-use chip::fault::ChipFault;
+use chip::on_chip::OnChip;
 use machine::Machine;
 use machine::fault::MachineFault;
 use machine::marks::Marks;
@@ -20,7 +20,7 @@ impl<C: Chip> TableMachine<C> {
     // A new machine: fresh words, all couplers in service.
     pub fn new(chip: C) -> TableMachine<C>
         ensures same_chip { result.chip ≡ chip }
-        ensures new { table_meaning (C.Chip.layout result.chip) result.words result.service result.left ≡ new (C.Chip.layout chip) 1000000 }
+        ensures new { table_meaning (C.Chip.layout result.chip) result ≡ new (C.Chip.layout chip) 1000000 }
     {
         TableMachine::with_allowance(chip, ALLOWANCE)
     }
@@ -29,20 +29,14 @@ impl<C: Chip> TableMachine<C> {
     pub fn into_chip(self) -> C
         ensures { result ≡ self.chip }
     {
-        let TableMachine {
-            chip,
-            words: _,
-            service: _,
-            left: _,
-        } = self;
-        chip
+        self.chip
     }
 }
 
 impl<C: Chip> TableMachine<C> {
     fn with_allowance(chip: C, left: usize) -> TableMachine<C>
         ensures same_chip { result.chip ≡ chip }
-        ensures new { table_meaning (C.Chip.layout result.chip) result.words result.service result.left ≡ new (C.Chip.layout chip) left }
+        ensures new { table_meaning (C.Chip.layout result.chip) result ≡ new (C.Chip.layout chip) left }
     {
         TableMachine {
             chip,
@@ -50,14 +44,6 @@ impl<C: Chip> TableMachine<C> {
             service: Marks::all_in_service(),
             left,
         }
-    }
-
-    // The word at place q, its bits below n.
-    fn low_word(&self, q: usize) -> u64
-        requires { q < (C.Chip.layout self.now.chip).places }
-        ensures { result ≡ slice_index (table_meaning (C.Chip.layout self.now.chip) self.now.words self.now.service self.now.left).words q }
-    {
-        self.words[q] & all_below(self.chip.width())
     }
 
     // Adds the word at place c into that at place t, for one gate of the allowance.
@@ -73,39 +59,25 @@ impl<C: Chip> TableMachine<C> {
     }
 }
 
-impl<C: Chip> Chip for TableMachine<C> {
-    ghost layout = { λ m. C.Chip.layout m.chip };
+impl<C: Chip> OnChip for TableMachine<C> {
+    type Inner = C;
 
-    ghost sound = { λ c. C.Chip.sound c.chip };
+    ghost inner = { λ m. m.chip };
 
-    fn width(&self) -> usize {
-        self.chip.width()
-    }
-
-    fn couplers(&self) -> usize {
-        self.chip.couplers()
-    }
-
-    fn ends(&self, k: usize) -> Result<(usize, usize), ChipFault> {
-        self.chip.ends(k)
-    }
-
-    fn joins(&self, a: usize, b: usize) -> Option<usize> {
-        self.chip.joins(a, b)
+    fn chip(&self) -> &C {
+        &self.chip
     }
 }
 
 impl<C: Chip> Machine for TableMachine<C> {
-    ghost meaning = { λ m. table_meaning (C.Chip.layout m.chip) m.words m.service m.left };
+    ghost meaning = { λ m. table_meaning (C.Chip.layout m.chip) m };
 
-    ghost fitting = { λ m. Tables.fits (C.Chip.layout m.chip) m.words m.service m.left (C.Chip.sound m.chip) m.word_room };
+    ghost fitting = { λ m. Tables.fits (C.Chip.layout m.chip) m (C.Chip.sound m.chip) };
 
     fn word(&self, q: usize) -> Result<u64, MachineFault> {
-        if q < self.chip.width() {
-            Ok(self.low_word(q))
-        } else {
-            Err(MachineFault::PlaceOutOfRange)
-        }
+        let n = self.chip.width();
+        let word = self.words[..n].get(q).ok_or(MachineFault::PlaceOutOfRange)?;
+        Ok(*word & all_below(n))
     }
 
     fn serves(&self, k: usize) -> Result<bool, MachineFault> {
@@ -120,17 +92,7 @@ impl<C: Chip> Machine for TableMachine<C> {
         self.service.set(&self.chip, k, on)
     }
 
-    fn fits(&self, g: usize) -> Result<(), MachineFault> {
-        if g <= self.left {
-            Ok(())
-        } else {
-            Err(MachineFault::AllowanceExceeded {
-                asked: g,
-                left: self.left,
-            })
-        }
-    }
-
+    // Kept: the trait could share it only by a public method that asks its callers for a checked gate.
     fn cnot(&mut self, c: usize, t: usize) -> Result<(), MachineFault> {
         self.check_cnot(c, t)?;
         self.add_word(c, t);

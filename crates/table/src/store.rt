@@ -6,6 +6,7 @@ use machine::marks::Marks;
 #[derive(Drop)]
 pub struct TableMachine<C> {
     pub(crate) chip: C,
+    // Kept: no memory is asked for to make a table machine, and no chip has more places.
     pub(crate) words: [u64; 64],
     pub(crate) service: Marks,
     pub(crate) left: usize,

@@ -1,21 +1,20 @@
 -- What a tape machine means, and how one is made.
-use Rattle.std.specs.Prelude.{◌≡◌, ℕ, ◌-◌, cond, List, map, length, Some, None, Ok, Err, vec_items, Option, Result, nat_lt}
+use Rattle.std.specs.Prelude.{◌≡◌, ℕ, ◌-◌, cond, map, length, Some, None, Ok, Err, vec_capacity, vec_items, Option, Result, nat_lt}
 use Rattle.chip.specs.Layout.{Layout}
 use Rattle.parity.specs.Words.{fresh, gate_of, replay}
 use Rattle.machine.specs.declared.fault.MachineFault.{MachineFault}
 use Rattle.machine.specs.declared.fault.MachineFault.TheVariants.{TapeTooLong, NoMemory}
-use Rattle.machine.specs.declared.marks.Marks.{Marks}
 use Rattle.machine.specs.Meaning.{Meaning, new}
 use Rattle.machine.specs.Service.{service_of}
 use Rattle.tape.specs.declared.store.TapeMachine.{TapeMachine}
 use Rattle.tape.specs.declared.acts.NotMade.{NotMade}
 
--- The words are the replay of the gates kept; the allowance is the tape's length less those gates.
-abbrev pub tape_meaning : Layout → List ℕ → ℕ → Marks → Meaning
-tape_meaning l entries long marks = record {
-  service = service_of l marks;
-  words = replay (map gate_of entries) (fresh l.places);
-  allowance = long - length entries;
+-- The words are the replay of the gates kept; the allowance is the tape's room less those gates.
+abbrev pub tape_meaning : {C : Type 0} → Layout → TapeMachine C → Meaning
+tape_meaning l m = record {
+  service = service_of l m.service;
+  words = replay (map gate_of (vec_items m.tape)) (fresh l.places);
+  allowance = vec_capacity m.tape - length (vec_items m.tape);
 }
 
 abbrev pub tape_fault : ℕ → Option MachineFault
@@ -29,5 +28,5 @@ Refuses None f = f ≡ NoMemory
 -- a new machine on the chip, or the chip back with the reason
 abbrev pub Makes : {C : Type 0} → (C → Layout) → C → ℕ → Result (TapeMachine C) (NotMade C) → Type 0
 Makes layout chip long (Ok m) =
-    (tape_fault long ≡ None) × (m.chip ≡ chip) × (tape_meaning (layout m.chip) (vec_items m.tape) m.length m.service ≡ new (layout chip) long)
+    (tape_fault long ≡ None) × (m.chip ≡ chip) × (tape_meaning (layout m.chip) m ≡ new (layout chip) long)
 Makes layout chip long (Err e) = (e.chip ≡ chip) × Refuses (tape_fault long) e.fault

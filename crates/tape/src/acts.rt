@@ -1,11 +1,11 @@
 // The tape machine as a chip and as a machine.
-ghost use Rattle.std.specs.Prelude.{◌≡◌, ◌+◌, ◌*◌, ◌<◌, [], ◌∷◌, ◌++◌, vec_len, nat_lt, slice_index};
+ghost use Rattle.std.specs.Prelude.{◌≡◌, ◌+◌, ◌*◌, ◌<◌, [], ◌∷◌, ◌++◌, vec_capacity, vec_len, length, nat_lt, take};
 ghost use Rattle.tape.specs.Tape.{tape_meaning, Makes};
 ghost use Rattle.tape.specs.Tapes;
 
 use crate::store::TapeMachine;
 use chip::Chip;
-use chip::fault::ChipFault;
+use chip::on_chip::OnChip;
 use machine::Machine;
 use machine::fault::MachineFault;
 use machine::marks::Marks;
@@ -22,35 +22,24 @@ pub struct NotMade<C> {
     pub fault: MachineFault,
 }
 
-fn too_long(length: usize) -> bool
-    ensures { result ≡ nat_lt 8192 length }
-{
-    length > LONGEST
-}
-
 impl<C: Chip> TapeMachine<C> {
     // A new machine with a tape of so many entries, had here and never again.
     pub fn new(heap: Global, chip: C, length: usize) -> Result<TapeMachine<C>, NotMade<C>>
         ensures { Makes C.Chip.layout chip length result }
     {
-        if too_long(length) {
-            return Err(NotMade {
-                chip,
-                fault: MachineFault::TapeTooLong,
-            });
+        if length > LONGEST {
+            let fault = MachineFault::TapeTooLong;
+            return Err(NotMade { chip, fault });
         }
-        match Vec::with_capacity(heap, length) {
-            Ok(tape) => Ok(TapeMachine {
-                chip,
-                tape,
-                length,
-                service: Marks::all_in_service(),
-            }),
-            Err(_) => Err(NotMade {
-                chip,
-                fault: MachineFault::NoMemory,
-            }),
-        }
+        let Ok(tape) = Vec::with_capacity(heap, length) else {
+            let fault = MachineFault::NoMemory;
+            return Err(NotMade { chip, fault });
+        };
+        Ok(TapeMachine {
+            chip,
+            tape,
+            service: Marks::all_in_service(),
+        })
     }
 
     // The gates kept, each as 64 x control + target.
@@ -64,33 +53,27 @@ impl<C: Chip> TapeMachine<C> {
     pub fn into_chip(self) -> C
         ensures { result ≡ self.chip }
     {
-        let TapeMachine {
-            chip,
-            tape: _,
-            length: _,
-            service: _,
-        } = self;
-        chip
+        self.chip
     }
 }
 
 impl<C: Chip> TapeMachine<C> {
-    // The word at place q after the gates kept.
-    fn replayed_word(&self, q: usize) -> u64
-        requires { q < (C.Chip.layout self.now.chip).places }
-        ensures { result ≡ slice_index (tape_meaning (C.Chip.layout self.now.chip) self.now.tape.items self.now.length self.now.service).words q }
+    // The words after the gates kept: those of the chip's places count.
+    fn replayed(&self) -> [u64; 64]
+        ensures room { length result ≡ 64 }
+        ensures words { take (C.Chip.layout self.now.chip).places result ≡ (tape_meaning (C.Chip.layout self.now.chip) self.now).words }
     {
         let n = self.chip.width();
         let mut words = fresh_words();
-        replay_entries(self.entries(), &mut words[0..n]);
-        words[q]
+        replay_entries(self.entries(), &mut words[..n]);
+        words
     }
 
     // Puts a gate on the tape.
     fn keep(&mut self, c: usize, t: usize)
-        requires { (c < 64) × ((t < 64) × (vec_len self.old.tape < self.old.length)) }
+        requires { (c < 64) × ((t < 64) × (vec_len self.old.tape < vec_capacity self.old.tape)) }
         ensures entries { self.new.tape.items ≡ self.old.tape.items ++ (64 * c + t) ∷ [] }
-        ensures length { self.new.length ≡ self.old.length }
+        ensures room { vec_capacity self.new.tape ≡ vec_capacity self.old.tape }
         ensures chip { self.new.chip ≡ self.old.chip }
         ensures service { self.new.service ≡ self.old.service }
     {
@@ -98,39 +81,26 @@ impl<C: Chip> TapeMachine<C> {
     }
 }
 
-impl<C: Chip> Chip for TapeMachine<C> {
-    ghost layout = { λ m. C.Chip.layout m.chip };
+impl<C: Chip> OnChip for TapeMachine<C> {
+    type Inner = C;
 
-    ghost sound = { λ c. C.Chip.sound c.chip };
+    ghost inner = { λ m. m.chip };
 
-    fn width(&self) -> usize {
-        self.chip.width()
-    }
-
-    fn couplers(&self) -> usize {
-        self.chip.couplers()
-    }
-
-    fn ends(&self, k: usize) -> Result<(usize, usize), ChipFault> {
-        self.chip.ends(k)
-    }
-
-    fn joins(&self, a: usize, b: usize) -> Option<usize> {
-        self.chip.joins(a, b)
+    fn chip(&self) -> &C {
+        &self.chip
     }
 }
 
 impl<C: Chip> Machine for TapeMachine<C> {
-    ghost meaning = { λ m. tape_meaning (C.Chip.layout m.chip) m.tape.items m.length m.service };
+    ghost meaning = { λ m. tape_meaning (C.Chip.layout m.chip) m };
 
-    ghost fitting = { λ m. Tapes.fits (C.Chip.layout m.chip) m.tape.items m.length m.service (C.Chip.sound m.chip) };
+    ghost fitting = { λ m. Tapes.fits (C.Chip.layout m.chip) m (C.Chip.sound m.chip) };
 
     fn word(&self, q: usize) -> Result<u64, MachineFault> {
-        if q < self.chip.width() {
-            Ok(self.replayed_word(q))
-        } else {
-            Err(MachineFault::PlaceOutOfRange)
-        }
+        self.replayed()[..self.chip.width()]
+            .get(q)
+            .copied()
+            .ok_or(MachineFault::PlaceOutOfRange)
     }
 
     fn serves(&self, k: usize) -> Result<bool, MachineFault> {
@@ -138,22 +108,14 @@ impl<C: Chip> Machine for TapeMachine<C> {
     }
 
     fn allowance(&self) -> usize {
-        self.length - self.tape.len()
+        self.tape.capacity() - self.tape.len()
     }
 
     fn set(&mut self, k: usize, on: bool) -> Result<(), MachineFault> {
         self.service.set(&self.chip, k, on)
     }
 
-    fn fits(&self, g: usize) -> Result<(), MachineFault> {
-        let left = self.allowance();
-        if g <= left {
-            Ok(())
-        } else {
-            Err(MachineFault::AllowanceExceeded { asked: g, left })
-        }
-    }
-
+    // Kept: the trait could share it only by a public method that asks its callers for a checked gate.
     fn cnot(&mut self, c: usize, t: usize) -> Result<(), MachineFault> {
         self.check_cnot(c, t)?;
         self.keep(c, t);

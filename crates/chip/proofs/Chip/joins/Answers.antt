@@ -1,19 +1,15 @@
-use Rattle.std.proofs.Common.{true, false, sym, ◌∙◌, arith}
-use Rattle.chip.proofs.Joining.{joins_turn, joining_from_done}
+use Rattle.std.proofs.Common.{rules, tests, ◌≡◌, ◌<◌, true, false, length}
+use Rattle.std.proofs.lemmas.Iterator.{first_from_Range}
+use Rattle.chip.specs.Layout.{touches}
+use Rattle.chip.specs.Chips.{ends_at}
+use Rattle.chip.proofs.Joining.{found_joining}
 use Rattle.chip.proofs.Chip.joins.Goals as goal
-
-pub loop-k-preserved : goal.loop-k-preserved
-loop-k-preserved g c =
-    c.loop-k.invariant
-    ∙ joins_turn (g.Self.Chip.layout c.args.self.now) c.args.a c.args.b c.loop-k.k (c.in-Ok.left, c.in-Ok.right) false
-    (omega arith) c.in-Ok.ensures c.if-meets.ensures
-
-pub returns-then-meets : goal.returns-then-meets
-returns-then-meets g c =
-    sym (c.loop-k.invariant
-    ∙ joins_turn (g.Self.Chip.layout c.args.self.now) c.args.a c.args.b c.loop-k.k (c.in-Ok.left, c.in-Ok.right) true
-    (omega arith) c.in-Ok.ensures c.if-meets.ensures)
 
 pub returns : goal.returns
 returns g c =
-    sym (c.loop-k.invariant ∙ joining_from_done c.args.a c.args.b c.loop-k.k (g.Self.Chip.layout c.args.self.now).couplers (omega arith))
+    let l = g.Self.Chip.layout c.args.self.now in
+    found_joining l c.args.a c.args.b c.couplers.result c.find.result c.couplers.ensures
+    (first_from_Range _ _ _ c.find.result
+    (λ k. touches c.args.a c.args.b (ends_at l k) ≡ true)
+    (λ k. k < length l.couplers → touches c.args.a c.args.b (ends_at l k) ≡ false)
+    c.find.ensures.ran (λ k q w. search (rules, tests)) (λ k q w. search (rules, tests)))

@@ -1,5 +1,7 @@
-use Rattle.std.proofs.Common.{arith}
-use Rattle.grid.specs.Couplers.{rightward_more, downward_more}
+use Rattle.std.proofs.Common.{◌<◌, ◌≤◌, refl, ◌∙◌, arith}
+use Rattle.std.proofs.lemmas.Bool.{lt-ltb, le-ltb}
+use Rattle.grid.specs.Grid.{rightward, grid_couplers}
+use Rattle.grid.specs.Couplers.{rightward_more, downward_more, length_couplers, ends_answered}
 use Rattle.grid.proofs.GridChipChip.ends.Goals as goal
 
 pub overflow_mul-rightward : goal.overflow_mul-rightward
@@ -8,4 +10,20 @@ overflow_mul-rightward c = let s = c.args.self.now in omega (arith, rightward_mo
 pub overflow_add-result-else-k-rightward : goal.overflow_add-result-else-k-rightward
 overflow_add-result-else-k-rightward c =
     let s = c.args.self.now in
-    omega (arith, rightward_more s.rows s.columns s.some_column, downward_more s.rows s.columns s.some_row)
+    omega (arith, length_couplers s.rows s.columns, rightward_more s.rows s.columns s.some_column, downward_more s.rows s.columns s.some_row)
+
+pub returns-then-k-rightward : goal.returns-then-k-rightward
+returns-then-k-rightward c =
+    let s = c.args.self.now in
+    let there : c.args.k < grid_couplers s.rows s.columns = omega (arith, length_couplers s.rows s.columns) in
+    let right : c.args.k < rightward s.rows s.columns = omega arith in
+    (rw (lt-ltb c.args.k (grid_couplers s.rows s.columns) there, lt-ltb c.args.k (rightward s.rows s.columns) right) refl)
+    ∙ ends_answered s.rows s.columns c.args.k
+
+pub returns-else-k-rightward : goal.returns-else-k-rightward
+returns-else-k-rightward c =
+    let s = c.args.self.now in
+    let there : c.args.k < grid_couplers s.rows s.columns = omega (arith, length_couplers s.rows s.columns) in
+    let down : rightward s.rows s.columns ≤ c.args.k = omega arith in
+    (rw (lt-ltb c.args.k (grid_couplers s.rows s.columns) there, le-ltb c.args.k (rightward s.rows s.columns) down) refl)
+    ∙ ends_answered s.rows s.columns c.args.k

@@ -1,9 +1,12 @@
-use Rattle.std.proofs.Common.{length, sym, arith}
-use Rattle.map.specs.BoundedLemmas.{least_none, least_is}
+use Rattle.std.proofs.Common.{rules, tests, ◌≡◌, true, false, length}
+use Rattle.std.proofs.lemmas.Iterator.{first_from_Range}
+use Rattle.map.specs.Couplers.{ends_in, bad_coupler}
+use Rattle.map.specs.BoundedLemmas.{least_found}
 use Rattle.map.proofs.check.first_bad.Goals as goal
 
-pub returns-then-is_bad : goal.returns-then-is_bad
-returns-then-is_bad c = sym (least_is _ (length c.args.left.now) c.loop-k.k (omega arith) (sym c.if-is_bad.ensures) c.loop-k.invariant)
-
 pub returns : goal.returns
-returns c = sym (least_none _ (length c.args.left.now) (λ i l. c.loop-k.invariant i (omega arith)))
+returns c =
+    let bad = bad_coupler c.args.places (ends_in c.args.couplers.now) in
+    least_found bad (length c.args.couplers.now) c.find.result
+    (first_from_Range _ _ _ c.find.result (λ k. bad k ≡ true) (λ k. bad k ≡ false) c.find.ensures.ran
+    (λ k q w. search (rules, tests)) (λ k q w. search (rules, tests)))

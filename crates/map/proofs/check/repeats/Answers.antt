@@ -1,9 +1,13 @@
-use Rattle.std.proofs.Common.{sym, arith}
-use Rattle.map.specs.BoundedLemmas.{none_passes, one_passes}
+use Rattle.std.proofs.Common.{rules, tests, ℕ, take, get_or, ◌∙◌, arith}
+use Rattle.std.proofs.lemmas.Iterator.{YieldsList-from_slice}
+use Rattle.std.proofs.lemmas.Iterator.Search.{any_from_yields_List}
+use Rattle.chip.specs.Layout.{touches}
+use Rattle.map.specs.BoundedLemmas.{any-take}
 use Rattle.map.proofs.check.repeats.Goals as goal
 
-pub returns-then-same_places : goal.returns-then-same_places
-returns-then-same_places c = sym (one_passes _ c.args.k c.loop-j.j (omega arith) (sym c.if-same_places.ensures))
-
 pub returns : goal.returns
-returns c = sym (none_passes _ c.args.k (λ i l. c.loop-j.invariant i (omega arith)))
+returns c =
+    let es = c.args.couplers.now in
+    let test = λ (e : ℕ × ℕ). touches e.0 e.1 (get_or es c.args.k (0, 0)) in
+    any_from_yields_List test _ _ c.any.result c.any.ensures.ran (YieldsList-from_slice (take c.args.k es) c.iter.ensures.rest) (λ x b q h. search (rules, tests))
+    ∙ any-take test es c.args.k (0, 0) (omega arith)
