@@ -1,9 +1,10 @@
 -- Which words write a number.
-use Rattle.std.proofs.Common.{◌≡◌, ℕ, ◌+◌, ◌-◌, ◌*◌, ◌^◌, ◌<◌, true, false, eqb, ltb, List, [], ◌∷◌, length, get_or, decimal, Ok, Err, Result, Some, None, sym, ap, ◌∙◌, subst, ⊎_elim, arith, rules, MatchOption}
+use Rattle.std.proofs.Common.{◌≡◌, ℕ, ◌+◌, ◌-◌, ◌*◌, ◌^◌, ◌<◌, true, false, eqb, ltb, List, [], ◌∷◌, length, get_or, decimal, Ok, Err, Option, Result, Some, None, sym, ap, ◌∙◌, subst, ⊎_elim, arith, rules, MatchOption}
 use Rattle.std.specs.Borrow.{Bor}
-use Rattle.std.specs.Result.{OkIff, MatchResult, result_ok}
+use Rattle.std.specs.Option.{SomeIff}
+use Rattle.std.specs.Result.{MatchResult, result_ok}
 use Rattle.std.specs.Str.{all_ascii_digits, IsUtf8}
-use Rattle.std.specs.Str.Parse.{ParsesUnsigned}
+use Rattle.std.specs.Str.Parse.{IsNumeral, digits_value, without_leading_plus}
 use Rattle.std.proofs.lemmas.Bool.{cases_eq, cases_lt, and_parts, and_from, or_cases, or_parts, both_ways, ltb-true, lt-ltb, eqb-true, eqb-false, eq-eqb}
 use Rattle.std.proofs.lemmas.Str.{IsUtf8-from_ascii}
 use Rattle.std.proofs.lemmas.Str.Parse.{IsNumeralModel, numerals_by_fold, not_in_digits, parse_plain}
@@ -61,12 +62,9 @@ not_text w (Ok s) S V h e = cc
 not_text w (Err x) S V h e = no_text w h.0
 
 -- the outcome of reading a word in base ten
-pub parsed : {E : Type 0} (w : List ℕ) (r : Result ℕ E) → prefixed w ≡ false → ParsesUnsigned 64 10 w r → MatchOption (result_ok r) (NoNumber w) (Writes w)
-parsed {E = E} w r f p = outcome r (parse_plain own 64 w r p (eqb-false (get_or w 0 0) 43 parts.0)) p
-  where
-    parts : (eqb (get_or w 0 0) 43 ≡ false) × (zero_led w ≡ false)
-    parts = or_parts _ _ f
-
-    outcome : (r : Result ℕ E) → OkIff r ((all_ascii_digits w ≡ true) × (0 < length w) × (read_on 0 w < 2 ^ 64)) (read_on 0 w) → ParsesUnsigned 64 10 w r → MatchOption (result_ok r) (NoNumber w) (Writes w)
-    outcome (Ok n) ((digits, some, small), is) p = subst (Writes w) (sym is) (writes w digits some parts.1 small)
-    outcome (Err x) none p = λ n (h, e). let s : ◌≡◌ {A = Result ℕ E} (Err x) (Ok n) = parse-decimal 64 n w (Err x) h h e p in cc
+pub parsed : (w : List ℕ) (o : Option ℕ) → prefixed w ≡ false → SomeIff o (IsNumeral 10 (without_leading_plus w) × (digits_value 10 (without_leading_plus w) < 2 ^ 64)) (digits_value 10 (without_leading_plus w)) → MatchOption o (NoNumber w) (Writes w)
+parsed w None f none = λ n (h, e). let s : ◌≡◌ {A = Result ℕ ℕ} (Err 0) (Ok n) = parse-decimal 64 n w (Err 0) h h e none in cc
+parsed w (Some n) f some =
+    let parts = or_parts (eqb (get_or w 0 0) 43) (zero_led w) f in
+    let p = parse_plain own {E = ℕ} 64 w (Ok n) some (eqb-false (get_or w 0 0) 43 parts.0) in
+    subst (Writes w) (sym p.1) (writes w p.0.0 p.0.1 parts.1 p.0.2)

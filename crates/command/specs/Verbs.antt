@@ -1,14 +1,10 @@
 -- The names of the commands, and their forms.
-use Rattle.std.specs.Prelude.{◌≡◌, ◌≢◌, ℕ, List, [], ◌∷◌, codes, Result, MatchResult}
+use Rattle.std.specs.Prelude.{◌≡◌, ◌≢◌, ℕ, List, codes, Result, MatchResult}
 use Rattle.std.specs.Borrow.{Bor}
 use Rattle.command.specs.declared.verb.Verb.{Verb}
 use Rattle.command.specs.declared.verb.Verb.TheVariants.{Grid, Map, Table, Tape, Out, In, Cnot, Words, Serves, Allowance}
 use Rattle.command.specs.declared.verb.Mistake.{Mistake}
 use Rattle.command.specs.declared.verb.Mistake.TheVariants.{Command, Usage}
-
--- every verb once
-abbrev pub verbs : List Verb
-verbs = Grid ∷ Map ∷ Table ∷ Tape ∷ Out ∷ In ∷ Cnot ∷ Words ∷ Serves ∷ Allowance ∷ []
 
 abbrev pub name_of : Verb → List ℕ
 name_of Grid = codes "grid"

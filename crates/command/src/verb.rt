@@ -1,6 +1,6 @@
 // The names of the commands, and what is said of a line that is none.
-ghost use Rattle.std.specs.Prelude.{◌≡◌, ◌++◌, Some, codes};
-ghost use Rattle.std.specs.List.{find};
+ghost use Rattle.std.specs.Prelude.{◌≡◌, ◌≢◌, ◌++◌, Some, codes, MatchOption};
+ghost use Rattle.std.specs.List.{AllByRecursion};
 ghost use Rattle.std.specs.Str.{bytes_eq};
 ghost use Rattle.command.specs.Verbs.{name_of, usage_of, wanted, Names};
 
@@ -78,11 +78,18 @@ impl Verb {
     }
 }
 
-// The first of some verbs that a word names.
+// The first of some verbs that a word names, if it names one.
 fn named_among(verbs: &[Verb], word: &[u8]) -> Option<Verb>
-    ensures { result ≡ find (λ v. bytes_eq word.now (name_of v)) verbs.now }
+    ensures { MatchOption result (AllByRecursion (λ v. word.now ≢ name_of v) verbs.now) (λ v. word.now ≡ name_of v) }
 {
     verbs.iter().find(|verb| verb.is_named(word)).copied()
+}
+
+// The verb that a word names, if it names one.
+fn verb_named(word: &[u8]) -> Option<Verb>
+    ensures { MatchOption result ((v : Verb) → word.now ≢ name_of v) (λ v. word.now ≡ name_of v) }
+{
+    named_among(&VERBS, word)
 }
 
 impl<'a> TryFrom<&'a [u8]> for Verb {
@@ -91,7 +98,7 @@ impl<'a> TryFrom<&'a [u8]> for Verb {
     ghost try_from_gives = { Names };
 
     fn try_from(word: &'a [u8]) -> Result<Verb, Mistake> {
-        named_among(&VERBS, word).ok_or(Mistake::Command)
+        verb_named(word).ok_or(Mistake::Command)
     }
 }
 

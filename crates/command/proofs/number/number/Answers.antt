@@ -11,4 +11,4 @@ returns-in_err-text c = rw c.from_residual.ensures (not_text c.args.word.now c.f
 pub returns : goal.returns
 returns c =
     let same = same_text c.args.word.now c.from_utf8.result c.in_ok-text.text _ c.from_utf8.ensures.cases (sym c.ok.ensures.value ∙ c.in_ok-text.was) in
-    rw c.ok-2.ensures.value (parsed c.args.word.now c.from_str_radix.result (sym c.is_prefixed.ensures ∙ c.if-is_prefixed.false) (rw same at c.from_str_radix.ensures.value))
+    parsed c.args.word.now c.in_base_ten.result (sym c.is_prefixed.ensures ∙ c.if-is_prefixed.false) (rw same at c.in_base_ten.ensures)
