@@ -9,7 +9,7 @@ fn is_blank(b: u8) -> bool
 }
 
 // How many bytes stand before the first word.
-fn gap(line: &[u8]) -> usize
+fn gap_length(line: &[u8]) -> usize
     ensures { Front true line.now result }
 {
     line.iter()
@@ -18,7 +18,7 @@ fn gap(line: &[u8]) -> usize
 }
 
 // How many bytes stand before the first blank.
-fn run(rest: &[u8]) -> usize
+fn word_length(rest: &[u8]) -> usize
     ensures { Front false rest.now result }
 {
     rest.iter().position(|b| is_blank(*b)).unwrap_or(rest.len())
@@ -35,9 +35,9 @@ fn wordless(rest: &[u8]) -> bool
 pub fn first_word(line: &[u8]) -> Option<(&[u8], &[u8])>
     ensures { MatchOption result (words line.now ≡ []) (λ p. words line.now ≡ p.0.now ∷ words p.1.now) }
 {
-    let rest = &line[gap(line)..];
+    let rest = &line[gap_length(line)..];
     if wordless(rest) {
         return None;
     }
-    Some(rest.split_at(run(rest)))
+    Some(rest.split_at(word_length(rest)))
 }
