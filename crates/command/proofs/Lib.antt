@@ -1,4 +1,3 @@
-pub mod Choosing
 pub mod Splitting
 pub mod Digits
 pub mod Naming

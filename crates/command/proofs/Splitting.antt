@@ -1,7 +1,7 @@
 -- How the words of a line follow from its front.
 use Rattle.std.proofs.Common.{◌≡◌, ℕ, zero, suc, ◌+◌, ◌-◌, ◌<◌, true, false, eqb, List, [], ◌∷◌, ◌++◌, length, get_or, take, drop, sym, refl, ap, ◌∙◌, subst, ⊎_elim, arith}
 use Rattle.std.specs.List.{AllByRecursion}
-use Rattle.std.proofs.lemmas.List.{append-nil, append_assoc, take-append-drop, drop_more, drop_all, length-drop, get_or-drop, take_rest}
+use Rattle.std.proofs.lemmas.List.{append-nil, append_assoc, take-append-drop, drop_more, drop_all, length-drop, get_or-drop}
 use Rattle.std.proofs.lemmas.Bool.{cond-true, cond-false, cond_both, both_ways, cases_lt, ne_eqb, eqb-true, eqb-false, or_parts, or_cases}
 use Rattle.command.specs.Words.{blank, ended, runs, marked, uncommented, words, Front, Parted, wordless}
 
@@ -78,7 +78,7 @@ none_first line rest n f e o = sym (past_gap line n f) ∙ ap words (sym e) ∙ 
         (λ m. ap (λ c. words (c ∷ bs)) (eqb-true b 35 m) ∙ words_marked bs)
         (or_cases (eqb (suc (length bs)) 0) (eqb b 35) o)
 
-pub word_first : (line rest : List ℕ) (n m : ℕ) → Front true line n → rest ≡ drop n line → Front false rest m → wordless rest ≡ false → words line ≡ take (m - 0) rest ∷ words (take (length rest - m) (drop m rest))
+pub word_first : (line rest : List ℕ) (n m : ℕ) → Front true line n → rest ≡ drop n line → Front false rest m → wordless rest ≡ false → words line ≡ take m rest ∷ words (drop m rest)
 word_first line rest n m f e g o =
     let parts = or_parts (eqb (length rest) 0) (eqb (get_or rest 0 0) 35) o in
     let h : 0 < length rest = omega (arith, eqb-false (length rest) 0 parts.0) in
@@ -87,5 +87,4 @@ word_first line rest n m f e g o =
     let z : n + 0 ≡ n = omega arith in
     let here : get_or rest 0 0 ≡ get_or line n 0 = ap (λ r. get_or r 0 0) e ∙ get_or-drop n line 0 0 ∙ ap (λ k. get_or line k 0) z in
     let nb : blank (get_or rest 0 0) ≡ false = ap blank here ∙ f.stops (omega arith) in
-    let k : m ≡ m - 0 = omega arith in
-    sym (past_gap line n f) ∙ ap words (sym e) ∙ past_word rest m g h nb mark ∙ (let t = sym (take_rest rest m) in λ i. take (k i) rest ∷ words (t i))
+    sym (past_gap line n f) ∙ ap words (sym e) ∙ past_word rest m g h nb mark

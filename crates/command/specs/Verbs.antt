@@ -1,5 +1,6 @@
 -- The names of the commands, and their forms.
-use Rattle.std.specs.Prelude.{ℕ, List, codes}
+use Rattle.std.specs.Prelude.{◌≡◌, ◌≢◌, ℕ, List, codes, Result, MatchResult}
+use Rattle.std.specs.Borrow.{Bor}
 use Rattle.command.specs.declared.verb.Verb.{Verb}
 use Rattle.command.specs.declared.verb.Verb.TheVariants.{Grid, Map, Table, Tape, Out, In, Cnot, Words, Serves, Allowance}
 use Rattle.command.specs.declared.verb.Mistake.{Mistake}
@@ -33,3 +34,7 @@ usage_of Allowance = codes "allowance"
 abbrev pub wanted : Mistake → List ℕ
 wanted Command = codes "a command"
 wanted (Usage v) = usage_of v
+
+-- the verb that a word names; or it names none, and a command was expected
+abbrev pub Names : Bor (List ℕ) → Result Verb Mistake → Type 0
+Names word r = MatchResult r (λ v. word.now ≡ name_of v) (λ m. (m ≡ Command) × ((v : Verb) → word.now ≢ name_of v))

@@ -14,7 +14,7 @@ pub mod verb;
 mod words;
 
 use shape::{alone, one_number, one_word, two_numbers};
-use verb::{Mistake, Verb, verb_named};
+use verb::{Mistake, Verb};
 use words::first_word;
 
 #[derive(Clone, Copy)]
@@ -40,13 +40,8 @@ pub fn read(line: &[u8]) -> Result<Command<'_>, Mistake>
     let Some((word, rest)) = first_word(line) else {
         return Ok(Command::Nothing);
     };
-    let Some(verb) = verb_named(word) else {
-        return Err(Mistake::Command);
-    };
-    match command_of(verb, rest) {
-        Some(command) => Ok(command),
-        None => Err(Mistake::Usage(verb)),
-    }
+    let verb = Verb::try_from(word)?;
+    command_of(verb, rest).ok_or(Mistake::Usage(verb))
 }
 
 // A verb's command, from the words behind its name.

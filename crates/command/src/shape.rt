@@ -11,10 +11,7 @@ use crate::words::first_word;
 pub fn no_word(rest: &[u8]) -> Option<()>
     ensures { MatchOption result (Unfilled bare (words rest.now)) (λ x. Fills bare (words rest.now) x) }
 {
-    match first_word(rest) {
-        Some(_) => None,
-        None => Some(()),
-    }
+    first_word(rest).is_none().then_some(())
 }
 
 // The command, if no word is left.

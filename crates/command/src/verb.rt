@@ -1,7 +1,8 @@
 // The names of the commands, and what is said of a line that is none.
-ghost use Rattle.std.specs.Prelude.{◌≡◌, ◌++◌, Some, codes, MatchOption, ◌≢◌};
+ghost use Rattle.std.specs.Prelude.{◌≡◌, ◌≢◌, ◌++◌, Some, codes, MatchOption};
 ghost use Rattle.std.specs.List.{AllByRecursion};
-ghost use Rattle.command.specs.Verbs.{name_of, usage_of, wanted};
+ghost use Rattle.std.specs.Str.{bytes_eq};
+ghost use Rattle.command.specs.Verbs.{name_of, usage_of, wanted, Names};
 
 use std::fmt;
 
@@ -52,6 +53,12 @@ impl Verb {
         }
     }
 
+    fn is_named(self, word: &[u8]) -> bool
+        ensures { result ≡ bytes_eq word.now (name_of self) }
+    {
+        word == self.name()
+    }
+
     // Its command with every word.
     pub fn usage(self) -> &'static str
         ensures { result.now ≡ usage_of self }
@@ -75,19 +82,24 @@ impl Verb {
 fn named_among(verbs: &[Verb], word: &[u8]) -> Option<Verb>
     ensures { MatchOption result (AllByRecursion (λ v. word.now ≢ name_of v) verbs.now) (λ v. word.now ≡ name_of v) }
 {
-    for verb in verbs {
-        if word == verb.name() {
-            return Some(*verb);
-        }
-    }
-    None
+    verbs.iter().find(|verb| verb.is_named(word)).copied()
 }
 
 // The verb that a word names, if it names one.
-pub fn verb_named(word: &[u8]) -> Option<Verb>
+fn verb_named(word: &[u8]) -> Option<Verb>
     ensures { MatchOption result ((v : Verb) → word.now ≢ name_of v) (λ v. word.now ≡ name_of v) }
 {
     named_among(&VERBS, word)
+}
+
+impl<'a> TryFrom<&'a [u8]> for Verb {
+    type Error = Mistake;
+
+    ghost try_from_gives = { Names };
+
+    fn try_from(word: &'a [u8]) -> Result<Verb, Mistake> {
+        verb_named(word).ok_or(Mistake::Command)
+    }
 }
 
 // What was expected in place of a line.

@@ -10,9 +10,7 @@ use std::{fs, io, str};
 
 fn main(rt: HostRuntime) -> io::Result<()> {
     let mut setup = Setup::new();
-    let mut number: usize = 0;
-    for line in rt.reader().split(rt.alloc(), b'\n') {
-        number = number.saturating_add(1);
+    for (number, line) in (1..).zip(rt.reader().split(rt.alloc(), b'\n')) {
         answer(&rt, &mut setup, number, line?.as_slice())?;
     }
     Ok(())
@@ -45,11 +43,6 @@ fn perform(
 
 // What the file of that name holds, if there is one to read.
 fn file_bytes(rt: &HostRuntime, name: &[u8]) -> Option<Vec<u8>> {
-    let Ok(path) = str::from_utf8(name) else {
-        return None;
-    };
-    match fs::read(rt, path) {
-        Ok(bytes) => Some(bytes),
-        Err(_) => None,
-    }
+    let path = str::from_utf8(name).ok()?;
+    fs::read(rt, path).ok()
 }

@@ -1,48 +1,52 @@
 // Numbers and gates, added to the end of a line.
-ghost use Rattle.std.specs.Prelude.{◌≡◌, ◌++◌, string_bytes, OnOk};
+ghost use Rattle.std.specs.Prelude.{◌≡◌, ℕ, List, ◌++◌, string_bytes, OnOk};
 ghost use Rattle.parity.specs.Words.{gate_of};
 ghost use Rattle.lines.specs.Lines.{texts, spaced_number, spaced_gate};
 
-use std::fmt;
+use std::alloc::AllocError;
 
-pub(crate) fn add_number(line: &mut String, number: u64) -> fmt::Result
-    ensures { OnOk result (string_bytes line.new ≡ string_bytes line.old ++ spaced_number number) }
-{
-    Ok(write!(line, " {number}")?)
+// What a line shows with a space before it.
+pub(crate) trait Spaced {
+    ghost text: { Self → List ℕ };
+
+    fn add_to(&self, line: &mut String) -> Result<(), AllocError>
+        ensures { OnOk result (string_bytes line.new ≡ string_bytes line.old ++ text self.now) };
 }
 
-pub(crate) fn add_words(line: &mut String, words: &[u64]) -> fmt::Result
-    ensures { OnOk result (string_bytes line.new ≡ string_bytes line.old ++ texts spaced_number words.now) }
-{
-    for word in words {
-        add_number(line, *word)?;
+// A word.
+impl Spaced for u64 {
+    ghost text = { spaced_number };
+
+    fn add_to(&self, line: &mut String) -> Result<(), AllocError> {
+        write!(line, " {self}")
     }
-    Ok(())
 }
 
-pub(crate) fn add_places(line: &mut String, places: &[usize]) -> fmt::Result
-    ensures { OnOk result (string_bytes line.new ≡ string_bytes line.old ++ texts spaced_number places.now) }
-{
-    for place in places {
-        add_number(line, *place as u64)?;
+// A place.
+impl Spaced for usize {
+    ghost text = { spaced_number };
+
+    fn add_to(&self, line: &mut String) -> Result<(), AllocError> {
+        write!(line, " {self}")
     }
-    Ok(())
 }
 
 // The gate of an entry.
-fn add_gate(line: &mut String, entry: u16) -> fmt::Result
-    ensures { OnOk result (string_bytes line.new ≡ string_bytes line.old ++ spaced_gate (gate_of entry)) }
-{
-    let control = entry / 64;
-    let target = entry % 64;
-    Ok(write!(line, " {control}>{target}")?)
+impl Spaced for u16 {
+    ghost text = { λ e. spaced_gate (gate_of e) };
+
+    fn add_to(&self, line: &mut String) -> Result<(), AllocError> {
+        let control = *self / 64;
+        let target = *self % 64;
+        write!(line, " {control}>{target}")
+    }
 }
 
-pub(crate) fn add_gates(line: &mut String, entries: &[u16]) -> fmt::Result
-    ensures { OnOk result (string_bytes line.new ≡ string_bytes line.old ++ texts (λ e. spaced_gate (gate_of e)) entries.now) }
+pub(crate) fn add_all<T: Spaced>(line: &mut String, items: &[T]) -> Result<(), AllocError>
+    ensures { OnOk result (string_bytes line.new ≡ string_bytes line.old ++ texts T.text items.now) }
 {
-    for entry in entries {
-        add_gate(line, *entry)?;
+    for item in items {
+        item.add_to(line)?;
     }
     Ok(())
 }

@@ -4,7 +4,7 @@ ghost use Rattle.parity.specs.Words.{gate_of};
 ghost use Rattle.replies.specs.declared.refusal.Refusal.TheVariants.{NoMemory as OutOfMemory};
 ghost use Rattle.lines.specs.Lines.{plan_text};
 
-use crate::add::{add_gates, add_places};
+use crate::add::add_all;
 use replies::refusal::Refusal;
 use std::alloc::Global;
 
@@ -14,8 +14,8 @@ pub fn plan_line(heap: Global, entries: &[u16], places: &[usize]) -> Result<Stri
 {
     let gates = entries.len();
     let mut line = format!(in heap; "plan: {gates} gates")?;
-    add_gates(&mut line, entries)?;
+    add_all(&mut line, entries)?;
     line.push_str(", wires at")?;
-    add_places(&mut line, places)?;
+    add_all(&mut line, places)?;
     Ok(line)
 }

@@ -3,7 +3,7 @@ ghost use Rattle.std.specs.Prelude.{◌≡◌, ◌<◌, string_bytes, MatchResul
 ghost use Rattle.replies.specs.declared.refusal.Refusal.TheVariants.{NoMemory as OutOfMemory};
 ghost use Rattle.lines.specs.Lines.{words_text, block_text};
 
-use crate::add::{add_number, add_words};
+use crate::add::{Spaced, add_all};
 use chip::Chip;
 use machine::Machine;
 use replies::refusal::Refusal;
@@ -14,8 +14,9 @@ pub fn words_line<M: Machine>(heap: Global, machine: &M) -> Result<String, Refus
     ensures { MatchResult result (λ line. string_bytes line ≡ words_text (M.Machine.meaning machine.now).words) (λ f. f ≡ OutOfMemory) }
 {
     let mut line = String::from_str(heap, "words")?;
+    // Kept: a proof knows nothing of what a closure has added to a line, so this is a loop over the places and no `try_for_each`.
     for q in 0..machine.width() {
-        add_number(&mut line, word_at(machine, q))?;
+        word_at(machine, q).add_to(&mut line)?;
     }
     Ok(line)
 }
@@ -24,10 +25,7 @@ fn word_at<M: Machine>(machine: &M, q: usize) -> u64
     requires { q < (M.Chip.layout machine.now).places }
     ensures { result ≡ slice_index (M.Machine.meaning machine.now).words q }
 {
-    match machine.word(q) {
-        Ok(word) => word,
-        Err(_) => 0,
-    }
+    machine.word(q).unwrap()
 }
 
 // The line "block", then the word of each wire in base ten.
@@ -35,6 +33,6 @@ pub fn block_line(heap: Global, words: &[u64]) -> Result<String, Refusal>
     ensures { MatchResult result (λ line. string_bytes line ≡ block_text words.now) (λ f. f ≡ OutOfMemory) }
 {
     let mut line = String::from_str(heap, "block")?;
-    add_words(&mut line, words)?;
+    add_all(&mut line, words)?;
     Ok(line)
 }

@@ -21,6 +21,7 @@ pub enum Refusal {
     NoMemory,
 }
 
+// Kept: the kit's derive of errors writes `From` and `Display` with no contract, and here clauses tell which error `?` makes and what is printed.
 impl From<ChipFault> for Refusal {
     ghost from_gives = { λ e r. r ≡ OfChip e };
 

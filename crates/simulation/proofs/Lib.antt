@@ -1,3 +1,2 @@
 pub mod Statuses
-pub mod Texts
 pub mod Passing

@@ -3,8 +3,8 @@ use Rattle.std.proofs.Common.{◌≡◌, Some, None, Ok, Err, Option, Result, St
 use Rattle.std.specs.declared.alloc.Global.{Global}
 use Rattle.chip.specs.Answers.{answered}
 use Rattle.chip.proofs.Answers.{answered_err}
-use Rattle.simulation.specs.declared.refusal.Refusal.{Refusal}
-use Rattle.simulation.specs.declared.reply.Reply.TheVariants as reply
+use Rattle.replies.specs.declared.refusal.Refusal.{Refusal}
+use Rattle.replies.specs.declared.reply.Reply.TheVariants as reply
 use Rattle.simulation.specs.Statuses.{Status, MachineStatus}
 use Rattle.simulation.specs.Calls.{Does, WordsSaid}
 use Rattle.simulation.specs.Obeying.{SaysWords}
@@ -15,6 +15,6 @@ pass_on s fault x y after r q f t did bad same =
     let is : fault ≡ Some f = answered_err fault x f r did.answers bad in
     record { answers = same ∙ sym (ap (λ (o : Option Refusal). answered o y) is); leaves = did.leaves }
 
-pub words_said : (o : Option MachineStatus) (line : String Global) → WordsSaid o (Ok line) → SaysWords o (Ok (reply.Words line))
+pub words_said : (o : Option MachineStatus) (line : String Global) → WordsSaid o (Ok line) → SaysWords o (Ok (reply.Line line))
 words_said None line h = absurd h
 words_said (Some m) line h = (line, refl, h)

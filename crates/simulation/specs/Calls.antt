@@ -9,12 +9,12 @@ use Rattle.machine.specs.declared.fault.MachineFault.{MachineFault}
 use Rattle.machine.specs.declared.fault.MachineFault.TheVariants.{NoMemory as MachineMemory}
 use Rattle.machine.specs.Meaning.{Meaning, new}
 use Rattle.machine.specs.Calls.{serves_at}
-use Rattle.simulation.specs.declared.refusal.Refusal.{Refusal}
-use Rattle.simulation.specs.declared.refusal.Refusal.TheVariants.{NoChip, NoMachine, Chip, Machine, NoMemory}
+use Rattle.replies.specs.declared.refusal.Refusal.{Refusal}
+use Rattle.replies.specs.declared.refusal.Refusal.TheVariants.{NoChip, NoMachine, Chip, Machine, NoMemory}
 use Rattle.tape.specs.Tape.{tape_fault}
 use Rattle.device.specs.declared.machines.AnyMachine.{AnyMachine}
 use Rattle.device.specs.Machines.{chip_layout, any_meaning}
-use Rattle.simulation.specs.Replies.{words_text}
+use Rattle.lines.specs.Lines.{words_text}
 use Rattle.simulation.specs.Statuses.{Status, MachineStatus, with_machine}
 
 -- the answer, and the status before and after: a refusal changes nothing

@@ -1,5 +1,3 @@
-pub mod Refusals
-pub mod Replies
 pub mod Statuses
 pub mod Calls
 pub mod Obeying

@@ -9,11 +9,11 @@ use Rattle.machine.specs.Meaning.{switched, played}
 use Rattle.tape.specs.Tape.{tape_fault}
 use Rattle.command.specs.declared.Command.{Command}
 use Rattle.command.specs.declared.Command.TheVariants.{Nothing, Grid, Map, Table, Tape, Out, In, Cnot, Words, Serves, Allowance}
-use Rattle.simulation.specs.declared.refusal.Refusal.{Refusal}
-use Rattle.simulation.specs.declared.refusal.Refusal.TheVariants.{NoMachine, Chip, Machine}
-use Rattle.simulation.specs.declared.reply.Reply.{Reply}
-use Rattle.simulation.specs.declared.reply.Reply.TheVariants as reply
-use Rattle.simulation.specs.Replies.{words_text}
+use Rattle.replies.specs.declared.refusal.Refusal.{Refusal}
+use Rattle.replies.specs.declared.refusal.Refusal.TheVariants.{NoMachine, Chip, Machine}
+use Rattle.replies.specs.declared.reply.Reply.{Reply}
+use Rattle.replies.specs.declared.reply.Reply.TheVariants as reply
+use Rattle.lines.specs.Lines.{words_text}
 use Rattle.simulation.specs.Statuses.{Status, MachineStatus, with_chip}
 use Rattle.simulation.specs.Calls.{Does, DoesOrLacks, Lacks, chipless, on_machine, changed, with_new_machine, allowance_in, serves_in, before}
 
@@ -26,7 +26,7 @@ serves_reply b k = cond b (reply.Serves k) (reply.ServesNot k)
 -- the words of the machine, in a line of text
 abbrev pub SaysWords : Option MachineStatus → Result Reply Refusal → Type 0
 SaysWords None r = r ≡ Err NoMachine
-SaysWords (Some m) r = (line : _) × (r ≡ Ok (reply.Words line)) × (string_bytes line ≡ words_text m.meaning.words)
+SaysWords (Some m) r = (line : _) × (r ≡ Ok (reply.Line line)) × (string_bytes line ≡ words_text m.meaning.words)
 
 -- a command, with the bytes of the file that it names if it names one
 abbrev pub Obeys : Status → Command → List ℕ → Result Reply Refusal → Status → Type 0

@@ -1,5 +1,5 @@
 // The commands, each on what the script has set up.
-ghost use Rattle.std.specs.Prelude.{◌≡◌, ◌-◌, None, MatchResult};
+ghost use Rattle.std.specs.Prelude.{◌≡◌, ◌-◌, Some, None, MatchResult};
 ghost use Rattle.std.specs.Option.{option_map};
 ghost use Rattle.chip.specs.Answers.{answered};
 ghost use Rattle.grid.specs.Grid.{grid_fault, grid_layout};
@@ -9,22 +9,21 @@ ghost use Rattle.machine.specs.Meaning.{switched, played};
 ghost use Rattle.tape.specs.Tape.{tape_fault};
 ghost use Rattle.device.specs.Chips.{any_layout};
 ghost use Rattle.device.specs.Machines.{chip_layout, any_meaning};
-ghost use Rattle.simulation.specs.declared.refusal.Refusal.TheVariants.{Chip as OfChip, Machine as OfMachine};
-ghost use Rattle.simulation.specs.Statuses.{status_of, empty, with_chip, with_machine};
+ghost use Rattle.replies.specs.declared.refusal.Refusal.TheVariants.{NoMachine, Chip as OfChip, Machine as OfMachine};
+ghost use Rattle.simulation.specs.Statuses.{status_of, machine_of, empty, with_chip, with_machine};
 ghost use Rattle.simulation.specs.Calls.{Does, DoesOrLacks, Again, TapeMade, WordsSaid, sizes, chipless, on_machine, changed, with_new_machine, allowance_in, serves_in, before};
 
-use crate::refusal::Refusal;
 use crate::setup::Setup;
-use crate::words::words_line;
 use chip::Chip;
 use device::chips::AnyChip;
 use device::machines::AnyMachine;
 use grid::GridChip;
+use lines::words::words_line;
 use machine::Machine;
 use map::MappedChip;
+use replies::refusal::Refusal;
 use std::alloc::Global;
 use table::store::TableMachine;
-use tape::acts::NotMade;
 use tape::store::TapeMachine;
 
 impl Setup {
@@ -68,10 +67,8 @@ impl Setup {
     fn chip_again(&self, heap: Global) -> Result<AnyChip, Refusal>
         ensures { Again (status_of self.now).chip any_layout result }
     {
-        match &self.chip {
-            Some(chip) => Ok(chip.duplicate(heap)?),
-            None => Err(Refusal::NoChip),
-        }
+        let chip = self.chip.as_ref().ok_or(Refusal::NoChip)?;
+        Ok(chip.duplicate(heap)?)
     }
 
     // Makes a table machine on the chip; answers its allowance.
@@ -100,60 +97,50 @@ impl Setup {
         allowance
     }
 
+    // The machine, if one was made.
+    fn machine(&self) -> Result<&AnyMachine, Refusal>
+        ensures { MatchResult result (λ m. (status_of self.now).machine ≡ Some (machine_of m.now)) (λ f. (f ≡ NoMachine) × ((status_of self.now).machine ≡ None)) }
+    {
+        self.machine.as_ref().ok_or(Refusal::NoMachine)
+    }
+
     // Puts a coupler in service or takes it out.
     pub fn set(&mut self, k: usize, on: bool) -> Result<(), Refusal>
         ensures { Does (status_of self.old) (on_machine (status_of self.old).machine (λ l _. coupler_fault l k)) tt (changed (status_of self.old) (status_of self.old).machine (λ m. switched m k on)) result (status_of self.new) }
     {
-        match &mut self.machine {
-            Some(machine) => {
-                machine.set(k, on)?;
-                Ok(())
-            }
-            None => Err(Refusal::NoMachine),
-        }
+        let machine = self.machine.as_mut().ok_or(Refusal::NoMachine)?;
+        machine.set(k, on)?;
+        Ok(())
     }
 
     // Plays a gate; answers how many more the machine takes.
     pub fn cnot(&mut self, c: usize, t: usize) -> Result<usize, Refusal>
         ensures { Does (status_of self.old) (on_machine (status_of self.old).machine (λ l m. cnot_fault l m c t)) (allowance_in (status_of self.old).machine - 1) (changed (status_of self.old) (status_of self.old).machine (λ m. played m (c, t))) result (status_of self.new) }
     {
-        match &mut self.machine {
-            Some(machine) => {
-                machine.cnot(c, t)?;
-                Ok(machine.allowance())
-            }
-            None => Err(Refusal::NoMachine),
-        }
+        let machine = self.machine.as_mut().ok_or(Refusal::NoMachine)?;
+        machine.cnot(c, t)?;
+        Ok(machine.allowance())
     }
 
     // The words at all places, as a line.
     pub fn words(&self, heap: Global) -> Result<String, Refusal>
         ensures { WordsSaid (status_of self.now).machine result }
     {
-        match &self.machine {
-            Some(machine) => words_line(heap, machine),
-            None => Err(Refusal::NoMachine),
-        }
+        words_line(heap, self.machine()?)
     }
 
     // Whether a coupler is in service.
     pub fn serves(&self, k: usize) -> Result<bool, Refusal>
         ensures { result ≡ answered (on_machine (status_of self.now).machine (λ l _. coupler_fault l k)) (serves_in (status_of self.now).machine k) }
     {
-        match &self.machine {
-            Some(machine) => Ok(machine.serves(k)?),
-            None => Err(Refusal::NoMachine),
-        }
+        Ok(self.machine()?.serves(k)?)
     }
 
     // How many gates the machine still takes.
     pub fn allowance(&self) -> Result<usize, Refusal>
         ensures { result ≡ answered (on_machine (status_of self.now).machine (λ _ _. None)) (allowance_in (status_of self.now).machine) }
     {
-        match &self.machine {
-            Some(machine) => Ok(machine.allowance()),
-            None => Err(Refusal::NoMachine),
-        }
+        Ok(self.machine()?.allowance())
     }
 }
 
@@ -161,8 +148,6 @@ impl Setup {
 fn tape_on(heap: Global, chip: AnyChip, length: usize) -> Result<AnyMachine, Refusal>
     ensures { TapeMade (any_layout chip) length result }
 {
-    match TapeMachine::new(heap, chip, length) {
-        Ok(machine) => Ok(AnyMachine::Tape(machine)),
-        Err(NotMade { chip: _, fault }) => Err(Refusal::Machine(fault)),
-    }
+    let machine = TapeMachine::new(heap, chip, length).map_err(|unmade| unmade.fault)?;
+    Ok(AnyMachine::Tape(machine))
 }

@@ -3,7 +3,4 @@
 
 pub mod calls;
 pub mod obey;
-pub mod refusal;
-pub mod reply;
 pub mod setup;
-mod words;

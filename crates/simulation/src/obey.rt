@@ -2,10 +2,10 @@
 ghost use Rattle.simulation.specs.Statuses.{status_of};
 ghost use Rattle.simulation.specs.Obeying.{Obeys};
 
-use crate::refusal::Refusal;
-use crate::reply::Reply;
 use crate::setup::Setup;
 use command::Command;
+use replies::refusal::Refusal;
+use replies::reply::Reply;
 use std::alloc::Global;
 
 // Obeys a command on what was set up; `file` is what the file that a command names holds.
@@ -46,7 +46,7 @@ pub fn obey(
             target,
             left: setup.cnot(control, target)?,
         }),
-        Command::Words => Ok(Reply::Words {
+        Command::Words => Ok(Reply::Line {
             line: setup.words(heap)?,
         }),
         Command::Serves { coupler } => {

@@ -1,15 +1,11 @@
-use Rattle.std.proofs.Common.{[], get_or, sym, ap, ◌∙◌}
-use Rattle.command.proofs.Spelling.{unnamed, unfilled}
+use Rattle.std.proofs.lemmas.Result.{err_from_is_err_and}
+use Rattle.command.proofs.Spelling.{read_unnamed, read_named}
 use Rattle.command.proofs.read.Goals as goal
 
-pub returns-in_default-verb_named : goal.returns-in_default-verb_named
-returns-in_default-verb_named c =
-    let first = c.in-Some.ensures in
-    let none = c.in_default-verb_named.ensures in
-    (unnamed _ _ _ first none, λ v e. none v (sym (ap (λ ws. get_or ws 0 []) first) ∙ e))
+pub returns-in_err-verb : goal.returns-in_err-verb
+returns-in_err-verb c =
+    let p = err_from_is_err_and c.from_residual.result c.from_residual.ensures.1 in
+    rw (p.1, p.2) (read_unnamed _ _ _ _ c.in-Some.ensures c.in_err-verb.ensures)
 
-pub returns-in-None : goal.returns-in-None
-returns-in-None c =
-    let first = c.in-Some.ensures in
-    let named = c.in-Some-verb_named.ensures in
-    (unfilled _ _ _ _ first named c.in-None.ensures, ap (λ ws. get_or ws 0 []) first ∙ named)
+pub returns : goal.returns
+returns c = rw c.ok_or.ensures.value (read_named _ _ _ _ c.command_of.result c.in-Some.ensures c.in_ok-verb.ensures c.command_of.ensures)

@@ -5,8 +5,9 @@ use Rattle.command.proofs.words.first_word.Goals as goal
 
 pub returns-then-wordless : goal.returns-then-wordless
 returns-then-wordless c =
-    none_first c.args.line.now _ c.front-start.result c.front-start.ensures (take_rest c.args.line.now c.front-start.result) (sym c.wordless.ensures ∙ c.if-wordless.true)
+    none_first c.args.line.now _ c.gap_length.result c.gap_length.ensures (take_rest c.args.line.now c.gap_length.result) (sym c.wordless.ensures ∙ c.if-wordless.true)
 
 pub returns : goal.returns
 returns c =
-    word_first c.args.line.now _ c.front-start.result c.front-end.result c.front-start.ensures (take_rest c.args.line.now c.front-start.result) c.front-end.ensures (sym c.wordless.ensures ∙ c.if-wordless.false)
+    let first = word_first c.args.line.now _ c.gap_length.result c.word_length.result c.gap_length.ensures (take_rest c.args.line.now c.gap_length.result) c.word_length.ensures (sym c.wordless.ensures ∙ c.if-wordless.false) in
+    rw c.split_at.ensures.front (rw c.split_at.ensures.back first)

@@ -1,12 +1,10 @@
 use Rattle.std.proofs.Common.{◌≡◌, None, refl}
-use Rattle.std.proofs.lemmas.Bool.{lt-ltb}
-use Rattle.chip.proofs.Answers.{never_refused}
+use Rattle.std.proofs.lemmas.Bool.{cond-true, lt-ltb}
 use Rattle.machine.specs.Calls.{word_fault}
 use Rattle.lines.proofs.words.word_at.Goals as goal
 
-pub returns-in-Err : goal.returns-in-Err
-returns-in-Err g c =
+pub unwrap-requires : goal.unwrap-requires
+unwrap-requires g c =
     let l = g.M.Chip.layout c.args.machine.now in
-    let inside = lt-ltb c.args.q l.places c.requires in
-    let free : word_fault l c.args.q ≡ None = rw inside refl in
-    absurd (never_refused (word_fault l c.args.q) _ _ c.word.result free c.word.ensures c.in-Err.is)
+    let free : word_fault l c.args.q ≡ None = cond-true _ _ _ (lt-ltb c.args.q l.places c.requires) in
+    rw c.word.ensures (rw free refl)

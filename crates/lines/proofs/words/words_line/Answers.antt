@@ -8,7 +8,7 @@ loop-q-preserved g c =
     let ws = (g.M.Machine.meaning c.args.machine.now).words in
     let each = (g.met.M.Machine.fitting c.args.machine.now).one_word_each in
     let h : c.loop-q.q < length ws = omega arith in
-    c.in_ok-add_number.ensures
+    c.in_ok-add_to.ensures
     ∙ ap (λ (l : List ℕ). l ++ spaced_number c.word_at.result) c.loop-q.invariant
     ∙ ap (λ (w : ℕ). words_text (take c.loop-q.q ws) ++ spaced_number w) c.word_at.ensures
     ∙ texts_more spaced_number (codes "words") ws c.loop-q.q 0 h
