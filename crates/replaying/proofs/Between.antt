@@ -1,5 +1,7 @@
 -- A search among the couplers of a machine.
-use Rattle.std.proofs.Common.{◌≡◌, ◌<◌, ◌≤◌, ℕ, Bool, List, length, MatchOption, None, Some, Option, arith}
+use Rattle.std.proofs.Common.{◌≡◌, ◌<◌, ◌≤◌, ℕ, Bool, List, length, get_or, subst, ap, ◌∙◌, ◌+◌, MatchOption, None, Some, Option, arith}
+use Rattle.std.specs.List.{AllWithin, HoldsAt, enumerate_from}
+use Rattle.std.proofs.lemmas.List.FromFn.{length-enumerate_from, get_or-enumerate_from}
 use Rattle.chip.specs.Layout.{Layout}
 use Rattle.machine.specs.OnCoupler.{OnCoupler}
 use Rattle.replaying.specs.Gates.{ServesBetween}
@@ -13,3 +15,19 @@ first_between l service a b m None e none = λ o.
     let there = o.joins.there in
     none o.coupler (omega arith) (omega arith) (record { joins = o.joins; serves = o.serves })
 first_between l service a b m (Some k) e (low, high, there, none) = there
+
+numbered : (ws : List ℕ) (q : ℕ) → q < length ws → get_or (enumerate_from 0 ws) q (0, 0) ≡ (q, get_or ws q 0)
+numbered ws q h = let e : 0 + q ≡ q = omega arith in get_or-enumerate_from 0 ws q (0, 0) h ∙ ap (λ (n : ℕ). (n, get_or ws q 0)) e
+
+-- of numbered items, the first that is not as asked, told by its number
+pub first_numbered : (ws : List ℕ) (r : Option ℕ) (P : ℕ → ℕ → Type 0)
+    → MatchOption r (AllWithin (λ (e : ℕ × ℕ). P e.0 e.1) (enumerate_from 0 ws) 0 (length (enumerate_from 0 ws)))
+    (λ i. (i < length (enumerate_from 0 ws)) × HoldsAt (λ (e : ℕ × ℕ). P e.0 e.1 → ⊥) (enumerate_from 0 ws) i × AllWithin (λ (e : ℕ × ℕ). P e.0 e.1) (enumerate_from 0 ws) 0 i)
+    → MatchOption r ((q : ℕ) → q < length ws → P q (get_or ws q 0)) (λ q. (q < length ws) × (P q (get_or ws q 0) → ⊥))
+first_numbered ws None P all = λ q h.
+    let len = length-enumerate_from 0 ws in
+    subst (λ (e : ℕ × ℕ). P e.0 e.1) (numbered ws q h) (all q (0, 0) (omega arith) (omega arith))
+first_numbered ws (Some q) P (low, holds, before) =
+    let len = length-enumerate_from 0 ws in
+    let h : q < length ws = omega arith in
+    (h, subst (λ (e : ℕ × ℕ). P e.0 e.1 → ⊥) (numbered ws q h) (holds (0, 0)))

@@ -3,4 +3,5 @@
 #![tactic(auto)]
 
 pub mod gates;
+pub mod islands;
 pub mod words;
