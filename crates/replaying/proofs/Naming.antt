@@ -1,5 +1,5 @@
 -- Names of islands, as couplers in service are added one by one.
-use Rattle.std.proofs.Common.{◌≡◌, ℕ, zero, suc, ◌<◌, Bool, true, false, cond, eqb, ltb, ◌⊎◌, List, take, Ok, Err, Result, [], ◌∷◌, length, get_or, get_or-take, ◌+◌, ◌≤◌, ⊎_elim, sym, refl, ap, subst, ◌∙◌, inl, inr, arith}
+use Rattle.std.proofs.Common.{◌≡◌, ℕ, zero, suc, ◌<◌, Bool, true, false, eqb, ◌⊎◌, List, take, Ok, Err, [], ◌∷◌, length, get_or, get_or-take, ◌+◌, ◌≤◌, ⊎_elim, sym, refl, ap, subst, ◌∙◌, inl, inr, arith}
 use Rattle.std.proofs.lemmas.Bool.{cases_Bool, cases_lt, lt-ltb, le-ltb, eqb-true}
 use Rattle.chip.specs.Layout.{Layout, Sound}
 use Rattle.chip.specs.declared.fault.ChipFault.{ChipFault}

@@ -1,4 +1,4 @@
-use Rattle.std.proofs.Common.{take, length}
+use Rattle.std.proofs.Common.{take}
 use Rattle.replaying.specs.Islands.{NamesIslands}
 use Rattle.replaying.proofs.islands.islands.Given as goal
 

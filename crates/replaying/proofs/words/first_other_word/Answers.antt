@@ -11,4 +11,4 @@ returns g c =
     let ws = c.args.words.now in
     first_numbered ws c.position.result has
     (IsFirst-from_position _ _ c.position.result (λ (e : ℕ × ℕ). has e.0 e.1 → ⊥) (λ (e : ℕ × ℕ). has e.0 e.1) c.position.ensures.ran
-    (YieldsList-from_enumerate (YieldsList-from_slice ws c.iter.ensures.rest) c.enumerate.ensures.count) (λ x q k. search (rules, tests)) (λ x q k. search (rules, tests)))
+    (YieldsList-from_enumerate (YieldsList-from_slice ws (cc)) (cc)) (λ x q k. search (rules, tests)) (λ x q k. search (rules, tests)))
