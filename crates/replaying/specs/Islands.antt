@@ -1,5 +1,6 @@
 -- Places that hang together over couplers in service, and names for their islands.
 use Rattle.std.specs.Prelude.{◌≡◌, ℕ, ◌<◌, Bool, cond, List, ◌==◌, slice_index}
+use Rattle.parity.specs.Sets.{bit}
 use Rattle.chip.specs.Layout.{Layout}
 use Rattle.machine.specs.OnCoupler.{OnCoupler}
 
@@ -16,3 +17,7 @@ pub record NamesIslands (l : Layout) (service : List Bool) (names : List ℕ) : 
 -- the name x with one name put for another
 abbrev pub renamed : ℕ → ℕ → ℕ → ℕ
 renamed name other x = cond (x == other) name x
+
+-- each of 64 places that is in the set has the name
+abbrev pub AllNamed : ℕ → List ℕ → ℕ → Type 0
+AllNamed set names name = (q : ℕ) → q < 64 → bit set q ≡ 1 → slice_index names q ≡ name

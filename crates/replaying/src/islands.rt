@@ -1,6 +1,7 @@
 // Which places hang together over couplers in service.
-ghost use Rattle.std.specs.Prelude.{◌≡◌, ℕ, ◌<◌, slice_index};
-ghost use Rattle.replaying.specs.Islands.{NamesIslands, renamed};
+ghost use Rattle.std.specs.Prelude.{◌≡◌, ℕ, ◌<◌, ◌↔◌, IsTrue, slice_index};
+ghost use Rattle.parity.specs.Sets.{bit};
+ghost use Rattle.replaying.specs.Islands.{AllNamed, NamesIslands, renamed};
 
 use chip::Chip;
 use std::array;
@@ -41,7 +42,7 @@ fn renamed(name: usize, other: usize, at: usize) -> usize
 pub fn places_of(word: u64, at: &[usize]) -> Option<u64> {
     let mut places = 0;
     for w in 0..64 {
-        if (word >> w) & 1 == 1 {
+        if has(word, w) {
             let place = u32::try_from(*at.get(w)?).ok()?;
             places ^= 1u64.checked_shl(place)?;
         }
@@ -49,11 +50,30 @@ pub fn places_of(word: u64, at: &[usize]) -> Option<u64> {
     Some(places)
 }
 
-// Whether the places of a set all hang together.
-pub fn on_one_island(set: u64, names: &[usize; 64]) -> bool {
-    let first = names.get(set.trailing_zeros() as usize);
+// Whether the places of a set all have one name.
+pub fn on_one_island(set: u64, names: &[usize; 64]) -> bool
+    ensures { IsTrue result ↔ ((p : ℕ) → p < 64 → bit set p ≡ 1 → AllNamed set names.now (slice_index names.now p)) }
+{
     names
         .iter()
         .enumerate()
-        .all(|(q, name)| (set >> q) & 1 == 0 || first == Some(name))
+        .all(|(p, name)| !has(set, p) || all_named(set, names, *name))
+}
+
+// Whether each place of a set has the name.
+fn all_named(set: u64, names: &[usize; 64], name: usize) -> bool
+    ensures { IsTrue result ↔ AllNamed set names.now name }
+{
+    names
+        .iter()
+        .enumerate()
+        .all(|(q, other)| !has(set, q) || *other == name)
+}
+
+// Whether a place is in a set.
+fn has(set: u64, place: usize) -> bool
+    requires { place < 64 }
+    ensures { IsTrue result ↔ (bit set place ≡ 1) }
+{
+    (set >> place) % 2 == 1
 }
