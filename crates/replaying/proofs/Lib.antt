@@ -1,2 +1,3 @@
 pub mod Between
 pub mod Naming
+pub mod Placed

@@ -1,5 +1,5 @@
 -- Places that hang together over couplers in service, and names for their islands.
-use Rattle.std.specs.Prelude.{◌≡◌, ℕ, ◌<◌, Bool, cond, List, ◌==◌, slice_index}
+use Rattle.std.specs.Prelude.{◌≡◌, ℕ, zero, suc, ◌^◌, ◌<◌, Bool, cond, List, length, ◌==◌, bit_xor, slice_index}
 use Rattle.parity.specs.Sets.{bit}
 use Rattle.chip.specs.Layout.{Layout}
 use Rattle.machine.specs.OnCoupler.{OnCoupler}
@@ -21,3 +21,12 @@ renamed name other x = cond (x == other) name x
 -- each of 64 places that is in the set has the name
 abbrev pub AllNamed : ℕ → List ℕ → ℕ → Type 0
 AllNamed set names name = (q : ℕ) → q < 64 → bit set q ≡ 1 → slice_index names q ≡ name
+
+-- the wire has one of 64 places
+abbrev pub HasPlace : List ℕ → ℕ → Type 0
+HasPlace at w = (w < length at) × (slice_index at w < 64)
+
+-- the places of the wires below n that are in the word
+unfoldable pub places_below : List ℕ → ℕ → ℕ → ℕ
+places_below at word zero = 0
+places_below at word (suc w) = cond (bit word w == 1) (bit_xor (places_below at word w) (2 ^ slice_index at w)) (places_below at word w)

@@ -1,7 +1,7 @@
 // Which places hang together over couplers in service.
-ghost use Rattle.std.specs.Prelude.{◌≡◌, ℕ, ◌<◌, ◌↔◌, IsTrue, slice_index};
+ghost use Rattle.std.specs.Prelude.{◌≡◌, ℕ, ◌^◌, ◌<◌, ◌↔◌, IsTrue, IsSome, IfSome, MatchOption, slice_index};
 ghost use Rattle.parity.specs.Sets.{bit};
-ghost use Rattle.replaying.specs.Islands.{AllNamed, NamesIslands, renamed};
+ghost use Rattle.replaying.specs.Islands.{AllNamed, HasPlace, NamesIslands, places_below, renamed};
 
 use chip::Chip;
 use std::array;
@@ -39,15 +39,25 @@ fn renamed(name: usize, other: usize, at: usize) -> usize
 }
 
 // The places of the wires in a word, if each has one of 64.
-pub fn places_of(word: u64, at: &[usize]) -> Option<u64> {
+pub fn places_of(word: u64, at: &[usize]) -> Option<u64>
+    ensures there { IsSome result ↔ ((w : ℕ) → w < 64 → bit word w ≡ 1 → HasPlace at.now w) }
+    ensures places { IfSome result (λ places. places ≡ places_below at.now word 64) }
+{
     let mut places = 0;
     for w in 0..64 {
         if has(word, w) {
-            let place = u32::try_from(*at.get(w)?).ok()?;
-            places ^= 1u64.checked_shl(place)?;
+            places ^= place_of(at, w)?;
         }
     }
     Some(places)
+}
+
+// The place of a wire alone, if it has one of 64.
+fn place_of(at: &[usize], w: usize) -> Option<u64>
+    ensures { MatchOption result (HasPlace at.now w → ⊥) (λ place. HasPlace at.now w × (place ≡ 2 ^ slice_index at.now w)) }
+{
+    let place = *at.get(w)?;
+    if place < 64 { Some(1 << place) } else { None }
 }
 
 // Whether the places of a set all have one name.
