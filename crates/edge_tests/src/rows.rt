@@ -13,6 +13,7 @@ use tape::store::TapeMachine;
 pub(crate) const SPENT: MachineFault = MachineFault::AllowanceExceeded { asked: 1, left: 0 };
 
 // A table machine on a row.
+// Kept: shared with the other tests, its contract would have to name the machine's private fields.
 pub(crate) fn table(places: usize) -> Result<TableMachine<GridChip>, Fail> {
     Ok(TableMachine::new(GridChip::new(1, places)?))
 }

@@ -78,7 +78,8 @@ fn offer_to_session<L: Machine, R: Machine>(
     Ok(refusals)
 }
 
-// The same on another machine for the same session, which cannot be lent twice.
+// The same on another machine for the same session.
+// Kept: one function for both would borrow the session twice.
 fn offer_on_machine<L: Machine, R: Machine>(
     rt: &impl Abort,
     session: &mut Session,

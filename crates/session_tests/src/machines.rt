@@ -10,6 +10,7 @@ use table::store::TableMachine;
 use tape::store::TapeMachine;
 
 // A table machine on a grid.
+// Kept: shared with the other tests, its contract would have to name the machine's private fields.
 pub(crate) fn table(rows: usize, columns: usize) -> Result<TableMachine<GridChip>, Fail> {
     Ok(TableMachine::new(GridChip::new(rows, columns)?))
 }
