@@ -57,8 +57,8 @@ fn sizes_past_the_limits_are_refused(rt: HostRuntime) {
 
 // Checks the ends of some couplers, each given as its number, its left end and its right end.
 fn check_ends(rt: &impl Abort, chip: &GridChip, cases: &[(usize, usize, usize)]) {
-    for (k, left, right) in cases {
-        assert_eq!(rt; chip.ends(*k), Ok((*left, *right)));
+    for &(k, left, right) in cases {
+        assert_eq!(rt; chip.ends(k), Ok((left, right)), "{k}");
     }
 }
 

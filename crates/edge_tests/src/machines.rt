@@ -6,6 +6,11 @@ use machine::fault::MachineFault;
 use std::process::Abort;
 use std::test::Fail;
 
+// What a gate may change on two places: the words and the allowance.
+fn seen<M: Machine>(machine: &M) -> ([Result<u64, MachineFault>; 2], usize) {
+    ([machine.word(0), machine.word(1)], machine.allowance())
+}
+
 // Checks that a gate is refused on a machine of some kind, and why, and that no word and no allowance is changed.
 fn check_refused<M: Machine>(
     rt: &impl Abort,
@@ -15,13 +20,9 @@ fn check_refused<M: Machine>(
     fault: MachineFault,
     kind: &str,
 ) {
-    let before = (machine.word(0), machine.word(1), machine.allowance());
+    let before = seen(machine);
     assert_eq!(rt; machine.cnot(c, t), Err(fault), "{c}; {t}; {kind}");
-    assert_eq!(rt;
-        (machine.word(0), machine.word(1), machine.allowance()),
-        before,
-        "{kind}"
-    );
+    assert_eq!(rt; seen(machine), before, "{kind}");
 }
 
 // A gate adds the control's word into the target's, and the same gate again takes it away.

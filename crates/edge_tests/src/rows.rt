@@ -2,6 +2,7 @@
 use grid::GridChip;
 use machine::Machine;
 use machine::fault::MachineFault;
+use replaying::words::first_other_word;
 use std::alloc::Global;
 use std::process::Abort;
 use std::test::Fail;
@@ -12,6 +13,7 @@ use tape::store::TapeMachine;
 pub(crate) const SPENT: MachineFault = MachineFault::AllowanceExceeded { asked: 1, left: 0 };
 
 // A table machine on a row.
+// Kept: shared with the other tests, its contract would have to name the machine's private fields.
 pub(crate) fn table(places: usize) -> Result<TableMachine<GridChip>, Fail> {
     Ok(TableMachine::new(GridChip::new(1, places)?))
 }
@@ -31,13 +33,10 @@ pub(crate) fn tape_on(
     chip: GridChip,
     length: usize,
 ) -> Result<TapeMachine<GridChip>, Fail> {
-    let made = TapeMachine::new(heap, chip, length);
-    Ok(made.ok().ok_or("no machine")?)
+    Ok(TapeMachine::new(heap, chip, length).map_err(|back| back.fault)?)
 }
 
 // Checks the words at place 0 and the places after it, on a machine of some kind.
 pub(crate) fn check_words<M: Machine>(rt: &impl Abort, machine: &M, words: &[u64], kind: &str) {
-    for (q, word) in words.iter().enumerate() {
-        assert_eq!(rt; machine.word(q), Ok(*word), "{q}; {kind}");
-    }
+    assert_eq!(rt; first_other_word(machine, words), None, "{kind}");
 }

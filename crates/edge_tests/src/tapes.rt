@@ -5,6 +5,7 @@ use grid::GridChip;
 use machine::Machine;
 use machine::fault::MachineFault;
 use play::play;
+use std::array;
 use std::process::Abort;
 use std::test::Fail;
 use table::store::TableMachine;
@@ -68,25 +69,36 @@ fn an_entry_is_64_times_the_control_and_the_target(rt: HostRuntime) -> Result<()
     Ok(())
 }
 
-// Plays a gate one way over each coupler, and then a gate the other way over each.
-fn weave<M: Machine>(machine: &mut M) -> Result<(), Fail> {
+// Plays a gate over each coupler, one way or the other.
+fn play_over_each<M: Machine, F: Fn((usize, usize)) -> (usize, usize)>(
+    machine: &mut M,
+    gate: F,
+) -> Result<(), Fail>
+    requires { F.IsAlwaysCallable gate }
+{
     for k in 0..machine.couplers() {
-        let (left, right) = machine.ends(k)?;
-        machine.cnot(left, right)?;
-    }
-    for k in 0..machine.couplers() {
-        let (left, right) = machine.ends(k)?;
-        machine.cnot(right, left)?;
+        let (control, target) = gate(machine.ends(k)?);
+        machine.cnot(control, target)?;
     }
     Ok(())
 }
 
+// Plays a gate one way over each coupler, and then a gate the other way over each.
+fn weave<M: Machine>(machine: &mut M) -> Result<(), Fail> {
+    play_over_each(machine, |ends| ends)?;
+    play_over_each(machine, |(left, right)| (right, left))
+}
+
+// The words of a machine at 64 places.
+fn words_of<M: Machine>(machine: &M) -> [Result<u64, MachineFault>; 64] {
+    array::from_fn(|q| machine.word(q))
+}
+
 // Checks that two machines of 64 places have the same words.
 fn check_same_words<L: Machine, R: Machine>(rt: &impl Abort, left: &L, right: &R, when: &str) {
-    for q in 0..64 {
-        assert_eq!(rt; left.word(q), right.word(q), "{q}; {when}");
-        assert!(rt; left.word(q).is_ok(), "{q}; {when}");
-    }
+    let words = words_of(left);
+    assert!(rt; words.iter().all(|word| word.is_ok()), "{when}");
+    assert_eq!(rt; words, words_of(right), "{when}");
 }
 
 #[test]

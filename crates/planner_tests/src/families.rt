@@ -1,10 +1,10 @@
 // Families of chips: random blocks on each.
 use crate::chips::{line, ring, star};
-use crate::random::Random;
-use crate::trial::{Case, check_blocks, check_two_blocks};
+use crate::trial::{Trial, check_blocks};
 use chip::Chip;
 use grid::GridChip;
 use machine::Machine;
+use random::Random;
 use std::process::Abort;
 use std::test::*;
 use table::store::TableMachine;
@@ -52,7 +52,7 @@ fn check_without<M: Machine>(
     seed: u64,
     blocks: usize,
 ) -> Result<(), Fail> {
-    for k in out.iter() {
+    for k in out {
         machine.set(*k, false)?;
     }
     check_blocks(rt, name, machine, seed, blocks)
@@ -80,7 +80,7 @@ fn islands_between_couplers_out_of_service(rt: HostRuntime) -> Result<(), Fail> 
 // Puts each coupler in service with the chance of three in four.
 fn shuffle_service<M: Machine>(machine: &mut M, random: &mut Random) -> Result<(), Fail> {
     for k in 0..machine.couplers() {
-        machine.set(k, random.below(4) != 0)?;
+        machine.set(k, random.below(4) != Some(0))?;
     }
     Ok(())
 }
@@ -91,12 +91,7 @@ fn random_couplers_out_of_service(rt: HostRuntime) -> Result<(), Fail> {
     let mut random = Random::new(61);
     for number in 0..1000 {
         shuffle_service(&mut machine, &mut random)?;
-        let case = Case {
-            chip: "grid",
-            places: machine.width(),
-            number,
-        };
-        check_two_blocks(&rt, case, &machine, &mut random)?;
+        Trial::new(&rt, "grid", &machine, number).check_two_blocks(&mut random)?;
     }
     Ok(())
 }

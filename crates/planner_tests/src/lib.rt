@@ -6,12 +6,8 @@ mod chips;
 #[cfg(test)]
 mod families;
 #[cfg(test)]
-mod model;
-#[cfg(test)]
-mod random;
-#[cfg(test)]
 mod refusals;
 #[cfg(test)]
-mod replay;
+mod task;
 #[cfg(test)]
 mod trial;

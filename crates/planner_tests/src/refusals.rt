@@ -1,27 +1,24 @@
 // What the planner turns down, with nothing touched.
 use crate::chips::line;
-use crate::trial::{
-    BUFFER, Case, UNTOUCHED, check_untouched, empty_block, most_gates, own_places, plan_for,
-};
+use crate::task::{empty_block, own_places};
+use crate::trial::{BUFFER, Trial, UNTOUCHED, plan_for};
 use chip::Chip;
 use machine::Machine;
 use planner::fault::{PlanFault, WireFault};
 use planner::store::{Block, Places};
+use replaying::words::most_gates;
 use std::process::Abort;
 use std::test::*;
 
 // A buffer one entry short is refused with the length that is needed; that length is enough.
 fn check_short<M: Machine>(rt: &impl Abort, machine: &M) -> Result<(), Fail> {
     let n = machine.width();
-    let case = Case {
-        chip: "line",
-        places: n,
-        number: 0,
-    };
+    let trial = Trial::new(rt, "line", machine, 0);
+    let case = trial.case;
     let mut block = empty_block(n)?;
     block.cx(n.wrapping_sub(1), 0)?;
     let places = own_places(n)?;
-    let needed = most_gates(n);
+    let needed = most_gates(n).ok_or("too wide")?;
     let mut out = [UNTOUCHED; BUFFER];
     let short = out.get_mut(0..needed.wrapping_sub(1)).ok_or("no room")?;
     let refused = plan_for(machine, &block, &places, short).err();
@@ -30,7 +27,7 @@ fn check_short<M: Machine>(rt: &impl Abort, machine: &M) -> Result<(), Fail> {
         Some(PlanFault::BufferTooShort { needed }),
         "{case}"
     );
-    check_untouched(rt, case, &out)?;
+    trial.check_untouched(&out);
     let enough = out.get_mut(0..needed).ok_or("no room")?;
     assert!(rt;
         plan_for(machine, &block, &places, enough).is_ok(),
@@ -54,17 +51,15 @@ fn check_mismatch<M: Machine>(
     wires: usize,
     placed: usize,
 ) -> Result<(), Fail> {
-    let case = Case {
-        chip: "line",
-        places: machine.width(),
-        number: wires,
-    };
+    let trial = Trial::new(rt, "line", machine, wires);
+    let case = trial.case;
     let block = empty_block(wires)?;
     let places = own_places(placed)?;
     let mut out = [UNTOUCHED; BUFFER];
     let refused = plan_for(machine, &block, &places, &mut out).err();
     assert_eq!(rt; refused, Some(PlanFault::SizeMismatch), "{case}");
-    check_untouched(rt, case, &out)
+    trial.check_untouched(&out);
+    Ok(())
 }
 
 #[test]

@@ -11,7 +11,7 @@ use std::test::*;
 // A random run of some hundred calls on a new machine.
 fn run<M: Machine>(rt: &impl Abort, heap: Global, machine: &mut M, seed: u64) -> Result<Run, Fail> {
     let mut session = Session::open(heap, 7, machine)?;
-    let mut run = Run::new(seed, machine.couplers());
+    let mut run = Run::new(heap, seed, machine.couplers())?;
     // half of the couplers and one more out at once
     let depth = (machine.couplers() / 2).wrapping_add(1);
     for number in 0..4 {
@@ -26,8 +26,8 @@ fn check_grid(rt: &impl Abort, heap: Global, rows: usize, columns: usize) -> Res
     let (mut obeyed, mut unreachable): (usize, usize) = (0, 0);
     for seed in 0..12 {
         let run = run(rt, heap, &mut table(rows, columns)?, seed)?;
-        obeyed = obeyed.wrapping_add(run.obeyed);
-        unreachable = unreachable.wrapping_add(run.unreachable);
+        obeyed = obeyed.checked_add(run.obeyed).ok_or("too many")?;
+        unreachable = unreachable.checked_add(run.unreachable).ok_or("too many")?;
     }
     assert!(rt; obeyed > 60, "{rows}, {columns}: {obeyed}");
     assert!(rt; unreachable > 20, "{rows}, {columns}: {unreachable}");
@@ -43,19 +43,11 @@ fn random_runs_with_outages_follow_the_sheet(rt: HostRuntime) -> Result<(), Fail
 }
 
 // Checks that two machines of one chip have the same words and the same couplers in service.
-fn check_same<L: Machine, R: Machine>(
-    rt: &impl Abort,
-    seed: u64,
-    left: &L,
-    right: &R,
-) -> Result<(), Fail> {
-    for q in 0..left.width() {
-        assert_eq!(rt; left.word(q), right.word(q), "{seed}: {q}");
-    }
-    for k in 0..left.couplers() {
-        assert_eq!(rt; left.serves(k), right.serves(k), "{seed}: {k}");
-    }
-    Ok(())
+fn check_same<L: Machine, R: Machine>(rt: &impl Abort, seed: u64, left: &L, right: &R) {
+    let word = (0..left.width()).find(|&q| left.word(q) != right.word(q));
+    assert_eq!(rt; word, None, "{seed}");
+    let service = (0..left.couplers()).find(|&k| left.serves(k) != right.serves(k));
+    assert_eq!(rt; service, None, "{seed}");
 }
 
 #[test]
@@ -65,8 +57,8 @@ fn a_run_on_a_tape_is_the_run_on_a_table(rt: HostRuntime) -> Result<(), Fail> {
         let (mut left, mut right) = (table(2, 3)?, tape(heap, 2, 3, 8192)?);
         let first = run(&rt, heap, &mut left, seed)?;
         let second = run(&rt, heap, &mut right, seed)?;
-        assert_eq!(rt; first.trace, second.trace, "{}", seed);
-        check_same(&rt, seed, &left, &right)?;
+        assert_eq!(rt; first.trace, second.trace, "{seed}");
+        check_same(&rt, seed, &left, &right);
     }
     Ok(())
 }

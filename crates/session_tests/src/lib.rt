@@ -16,8 +16,6 @@ mod nest;
 #[cfg(test)]
 mod passes;
 #[cfg(test)]
-mod random;
-#[cfg(test)]
 mod refusals;
 #[cfg(test)]
 mod sheet;

@@ -3,23 +3,11 @@ use crate::machines::{check_words, table, tape};
 use chip::Chip;
 use machine::Machine;
 use machine::fault::MachineFault;
+use replaying::gates::replayed;
 use session::store::Session;
 use session_fault::SessionFault;
 use std::process::Abort;
 use std::test::*;
-
-// The words of two places after gates that lie between them.
-fn replay_two(gates: &[u16]) -> (u64, u64) {
-    let (mut low, mut high) = (1, 2);
-    for gate in gates.iter() {
-        if *gate == 1 {
-            high ^= low;
-        } else {
-            low ^= high;
-        }
-    }
-    (low, high)
-}
 
 #[test]
 fn a_tape_of_no_entries_lets_wires_be_renamed_and_no_more(rt: HostRuntime) -> Result<(), Fail> {
@@ -37,10 +25,12 @@ fn a_tape_of_no_entries_lets_wires_be_renamed_and_no_more(rt: HostRuntime) -> Re
         return Err(Fail::new("not refused for its gates"));
     };
     // the plan stands in the buffer: wire 0 at place 1 goes into wire 1 at place 0
-    let plan = replay_two(buffer.get(0..asked).ok_or("too many gates")?);
-    assert!(rt; plan == (3, 2) || plan == (2, 3), "{}", asked);
+    let words = replayed(&machine, buffer.get(..asked).ok_or("too many gates")?)?;
+    let plan = (words[0], words[1]);
+    assert!(rt; plan == (3, 2) || plan == (2, 3), "{asked}");
     assert_eq!(rt; (session.place(0), session.place(1)), (Ok(1), Ok(0)));
-    check_words(&rt, &machine, &[1, 2])
+    check_words(&rt, &machine, &[1, 2]);
+    Ok(())
 }
 
 #[test]
@@ -64,9 +54,9 @@ fn fold(session: &mut Session) -> Result<(), Fail> {
 // Checks that each wire carries what it should after that.
 fn check_folded<M: Machine>(rt: &impl Abort, session: &Session, machine: &M) -> Result<(), Fail> {
     for w in 0..32 {
-        assert_eq!(rt; machine.word(session.place(w)?), Ok(1 << w), "{}", w);
+        assert_eq!(rt; machine.word(session.place(w)?), Ok(1 << w), "{w}");
         let both = (1 << w) | (1 << (w + 32));
-        assert_eq!(rt; machine.word(session.place(w + 32)?), Ok(both), "{}", w);
+        assert_eq!(rt; machine.word(session.place(w + 32)?), Ok(both), "{w}");
     }
     Ok(())
 }

@@ -1,48 +1,26 @@
 // What can be seen of a session and its machine.
-use chip::Chip;
 use machine::Machine;
+use machine::fault::MachineFault;
 use session::store::Session;
-use std::process::Abort;
-use std::test::*;
+use session_fault::SessionFault;
+use std::array;
 
-#[derive(Clone, Copy)]
+#[derive(Clone, Copy, PartialEq, Eq, Debug)]
 pub(crate) struct Look {
-    places: [usize; 8],
-    words: [u64; 8],
-    serves: [bool; 8],
+    places: [Result<usize, SessionFault>; 8],
+    words: [Result<u64, MachineFault>; 8],
+    serves: [Result<bool, MachineFault>; 8],
     allowance: usize,
 }
 
 impl Look {
-    // Of at most 8 places and couplers.
+    // Of the first 8 places and couplers.
     pub(crate) fn of<M: Machine>(session: &Session, machine: &M) -> Look {
-        let mut look = Look {
-            places: [0; 8],
-            words: [0; 8],
-            serves: [false; 8],
+        Look {
+            places: array::from_fn(|w| session.place(w)),
+            words: array::from_fn(|q| machine.word(q)),
+            serves: array::from_fn(|k| machine.serves(k)),
             allowance: machine.allowance(),
-        };
-        for i in 0..8 {
-            if let Ok(place) = session.place(i) {
-                look.places[i] = place;
-            }
-            if let Ok(word) = machine.word(i) {
-                look.words[i] = word;
-            }
-            if let Ok(on) = machine.serves(i) {
-                look.serves[i] = on;
-            }
         }
-        look
-    }
-
-    pub(crate) fn check_same(&self, rt: &impl Abort, later: &Look) -> Result<(), Fail> {
-        assert_eq!(rt; self.allowance, later.allowance, "allowance");
-        for i in 0..8 {
-            assert_eq!(rt; self.places[i], later.places[i], "place");
-            assert_eq!(rt; self.words[i], later.words[i], "word");
-            assert_eq!(rt; self.serves[i], later.serves[i], "service");
-        }
-        Ok(())
     }
 }

@@ -2,6 +2,7 @@
 use grid::GridChip;
 use machine::Machine;
 use map::MappedChip;
+use replaying::words::first_other_word;
 use std::alloc::Global;
 use std::process::Abort;
 use std::test::*;
@@ -9,6 +10,7 @@ use table::store::TableMachine;
 use tape::store::TapeMachine;
 
 // A table machine on a grid.
+// Kept: shared with the other tests, its contract would have to name the machine's private fields.
 pub(crate) fn table(rows: usize, columns: usize) -> Result<TableMachine<GridChip>, Fail> {
     Ok(TableMachine::new(GridChip::new(rows, columns)?))
 }
@@ -20,20 +22,13 @@ pub(crate) fn tape(
     columns: usize,
     length: usize,
 ) -> Result<TapeMachine<GridChip>, Fail> {
-    let made = TapeMachine::new(heap, GridChip::new(rows, columns)?, length);
-    Ok(made.ok().ok_or("no machine")?)
+    let chip = GridChip::new(rows, columns)?;
+    Ok(TapeMachine::new(heap, chip, length).map_err(|back| back.fault)?)
 }
 
 // Checks the words at place 0 and the places after it.
-pub(crate) fn check_words<M: Machine>(
-    rt: &impl Abort,
-    machine: &M,
-    words: &[u64],
-) -> Result<(), Fail> {
-    for (q, word) in words.iter().enumerate() {
-        assert_eq!(rt; machine.word(q), Ok(*word), "{}", q);
-    }
-    Ok(())
+pub(crate) fn check_words<M: Machine>(rt: &impl Abort, machine: &M, words: &[u64]) {
+    assert_eq!(rt; first_other_word(machine, words), None);
 }
 
 // A table machine on a star of four places, whose couplers all end at place 3.

@@ -3,13 +3,14 @@ ghost use Rattle.session.specs.Views.{state};
 ghost use Rattle.session_tests.specs.Passes.{Ends, Keeps, KeepsOthers};
 
 use crate::passes::{give, write};
-use crate::random::Random;
 use crate::sheet::{Coupler, Progress, Sheet};
 use chip::Chip;
 use machine::Machine;
+use random::Random;
 use session::pass::Pass;
 use session::store::Session;
 use session_fault::SessionFault;
+use std::alloc::{AllocError, Global};
 use std::process::Abort;
 use std::test::*;
 
@@ -33,9 +34,9 @@ pub(crate) struct Run {
 }
 
 impl Run {
-    pub(crate) fn new(seed: u64, couplers: usize) -> Run {
-        Run {
-            sheet: Sheet::new(couplers),
+    pub(crate) fn new(heap: Global, seed: u64, couplers: usize) -> Result<Run, AllocError> {
+        Ok(Run {
+            sheet: Sheet::new(heap, couplers)?,
             random: Random::new(seed),
             buffer: [0; BUFFER],
             progress: Progress {
@@ -47,18 +48,7 @@ impl Run {
             obeyed: 0,
             unreachable: 0,
             trace: 0,
-        }
-    }
-
-    fn ended(&mut self, k: usize, writes_off: bool) {
-        self.sheet.record(
-            k,
-            if writes_off {
-                Coupler::WrittenOff
-            } else {
-                Coupler::In
-            },
-        );
+        })
     }
 
     fn note_places(&mut self, session: &Session) {
@@ -74,6 +64,22 @@ impl Run {
     }
 }
 
+// The two ways in which an outage ends.
+#[derive(Clone, Copy)]
+enum Ending {
+    GiveBack,
+    WriteOff,
+}
+
+impl From<Ending> for Coupler {
+    fn from(ending: Ending) -> Coupler {
+        match ending {
+            Ending::GiveBack => Coupler::In,
+            Ending::WriteOff => Coupler::WrittenOff,
+        }
+    }
+}
+
 #[derive(Clone, Copy)]
 enum Call {
     Cx { a: usize, b: usize },
@@ -82,37 +88,28 @@ enum Call {
 }
 
 // A random call: mostly a CX, of wires on one island where that is easily had.
-fn random_call<M: Machine>(
-    rt: &impl Abort,
-    session: &Session,
-    machine: &M,
-    run: &mut Run,
-) -> Result<Call, Fail> {
+fn random_call<M: Machine>(session: &Session, machine: &M, run: &mut Run) -> Call {
     let n = session.wires();
-    let together = run.sheet.islands(rt, machine)?;
+    let islands = run.sheet.islands(machine);
     let mut pair = run.random.pair(n);
     for _ in 0..4 {
-        if !on_one(session, &together, pair) {
+        if !on_one(session, &islands, pair) {
             pair = run.random.pair(n);
         }
     }
-    let kind = run.random.below(6);
-    Ok(match pair {
-        Some((a, b)) if kind < 3 => Call::Cx { a, b },
-        Some((a, b)) if kind == 3 => Call::Swap { a, b },
+    match (pair, run.random.below(6)) {
+        (Some((a, b)), Some(0..=2)) => Call::Cx { a, b },
+        (Some((a, b)), Some(3)) => Call::Swap { a, b },
         _ => Call::Flush,
-    })
+    }
 }
 
 // Whether the places of the two wires hang together.
-fn on_one(session: &Session, together: &[u64; 64], pair: Option<(usize, usize)>) -> bool {
-    let Some((a, b)) = pair else {
-        return true;
-    };
-    match (session.place(a), session.place(b)) {
-        (Ok(p), Ok(q)) => p < 64 && q < 64 && (together[p] >> q) & 1 == 1,
+fn on_one(session: &Session, islands: &[usize; 64], pair: Option<(usize, usize)>) -> bool {
+    pair.is_none_or(|(a, b)| match (session.place(a), session.place(b)) {
+        (Ok(p), Ok(q)) => islands.get(p) == islands.get(q),
         _ => false,
-    }
+    })
 }
 
 // Makes a call; the answer of a CX or a swap that is obeyed is 0.
@@ -125,17 +122,9 @@ fn make<M: Machine>(
     ensures { Keeps (state session.old (M.Chip.layout machine.old) (M.Machine.meaning machine.old)) (state session.new (M.Chip.layout machine.new) (M.Machine.meaning machine.new)) }
 {
     match call {
-        Call::Cx { a, b } => none(session.cx(a, b)),
-        Call::Swap { a, b } => none(session.swap(a, b)),
+        Call::Cx { a, b } => session.cx(a, b).map(|()| 0),
+        Call::Swap { a, b } => session.swap(a, b).map(|()| 0),
         Call::Flush => session.flush(machine, buffer),
-    }
-}
-
-// No gates.
-fn none(r: Result<(), SessionFault>) -> Result<usize, SessionFault> {
-    match r {
-        Ok(()) => Ok(0),
-        Err(fault) => Err(fault),
     }
 }
 
@@ -151,13 +140,16 @@ fn check_answer(
     match call {
         Call::Cx { a, b } => {
             assert_eq!(rt; answer, Ok(0), "{progress}");
-            run.sheet.cx(rt, a, b)
+            run.sheet.cx(a, b)
         }
         Call::Swap { a, b } => {
             assert_eq!(rt; answer, Ok(0), "{progress}");
-            run.sheet.swap(rt, a, b)
+            run.sheet.swap(a, b)
         }
-        Call::Flush => check_flush(rt, run, answer, reachable),
+        Call::Flush => {
+            check_flush(rt, run, answer, reachable);
+            Ok(())
+        }
     }
 }
 
@@ -167,7 +159,7 @@ fn check_flush(
     run: &mut Run,
     answer: Result<usize, SessionFault>,
     reachable: bool,
-) -> Result<(), Fail> {
+) {
     let progress = run.progress;
     match answer {
         Ok(gates) => {
@@ -176,14 +168,12 @@ fn check_flush(
             run.sheet.flushed();
             run.obeyed = run.obeyed.wrapping_add(1);
             run.note(gates as u64);
-            Ok(())
         }
         Err(fault) => {
             assert!(rt; !reachable, "{progress}: one island");
             run.unreachable = run.unreachable.wrapping_add(1);
             run.note(1000);
             assert_eq!(rt; fault, SessionFault::Unreachable, "{progress}");
-            Ok(())
         }
     }
 }
@@ -197,12 +187,13 @@ fn step<M: Machine>(
 ) -> Result<(), Fail>
     ensures { Keeps (state session.old (M.Chip.layout machine.old) (M.Machine.meaning machine.old)) (state session.new (M.Chip.layout machine.new) (M.Machine.meaning machine.new)) }
 {
-    let call = random_call(rt, session, machine, run)?;
-    let reachable = run.sheet.reachable(rt, session, machine)?;
+    let call = random_call(session, machine, run);
+    let reachable = run.sheet.reachable(session, machine)?;
     let answer = make(session, machine, &mut run.buffer, call);
     run.note_places(session);
     check_answer(rt, run, call, answer, reachable)?;
-    run.sheet.check(rt, run.progress, session, machine)
+    run.sheet.check(rt, run.progress, session, machine);
+    Ok(())
 }
 
 // Some random calls.
@@ -222,14 +213,13 @@ fn steps<M: Machine>(
 }
 
 // Ends a pass in one of the two ways.
-fn finish<M: Machine>(session: &mut Session, machine: &mut M, pass: Pass, writes_off: bool)
+fn finish<M: Machine>(session: &mut Session, machine: &mut M, pass: Pass, ending: Ending)
     requires { Ends (state session.old (M.Chip.layout machine.old) (M.Machine.meaning machine.old)) pass }
     ensures { KeepsOthers (state session.old (M.Chip.layout machine.old) (M.Machine.meaning machine.old)) pass.coupler (state session.new (M.Chip.layout machine.new) (M.Machine.meaning machine.new)) }
 {
-    if writes_off {
-        write(session, machine, pass);
-    } else {
-        give(session, machine, pass);
+    match ending {
+        Ending::GiveBack => give(session, machine, pass),
+        Ending::WriteOff => write(session, machine, pass),
     }
 }
 
@@ -247,23 +237,30 @@ pub(crate) fn nest<M: Machine>(
     if depth == 0 {
         return Ok(());
     }
-    let k = run.random.below(session.couplers().wrapping_add(1));
-    let refusal = run.sheet.take_refusal(k);
+    // one coupler more than there are
+    let k = run
+        .random
+        .below(session.couplers().wrapping_add(1))
+        .ok_or("too many couplers")?;
+    let expected = run.sheet.take_answer(k);
     match session.take_out(machine, k) {
         Ok(pass) => {
             run.sheet.record(k, Coupler::Out);
             let inside = nest(rt, session, machine, run, depth - 1);
-            let writes_off = run.random.below(8) == 0;
-            finish(session, machine, pass, writes_off);
-            run.ended(k, writes_off);
+            let ending = match run.random.below(8) {
+                Some(0) => Ending::WriteOff,
+                _ => Ending::GiveBack,
+            };
+            finish(session, machine, pass, ending);
+            run.sheet.record(k, ending.into());
             inside?;
             let progress = run.progress;
-            assert_eq!(rt; refusal, None, "{progress}: {k}");
+            assert_eq!(rt; expected, Ok(()), "{progress}: {k}");
             Ok(())
         }
         Err(fault) => {
             let progress = run.progress;
-            assert_eq!(rt; refusal, Some(fault), "{progress}: {k}");
+            assert_eq!(rt; expected, Err(fault), "{progress}: {k}");
             Ok(())
         }
     }

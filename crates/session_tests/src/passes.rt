@@ -16,9 +16,8 @@ pub(crate) fn give<M: Machine>(session: &mut Session, machine: &mut M, pass: Pas
     requires { Ends (state session.old (M.Chip.layout machine.old) (M.Machine.meaning machine.old)) pass }
     ensures { KeepsOthers (state session.old (M.Chip.layout machine.old) (M.Machine.meaning machine.old)) pass.coupler (state session.new (M.Chip.layout machine.new) (M.Machine.meaning machine.new)) }
 {
-    match session.give_back(machine, pass) {
-        Ok(()) => {}
-        Err((_, _)) => unreachable(),
+    if let Err((_, _)) = session.give_back(machine, pass) {
+        unreachable()
     }
 }
 
@@ -27,26 +26,38 @@ pub(crate) fn write<M: Machine>(session: &mut Session, machine: &M, pass: Pass)
     requires { Ends (state session.old (M.Chip.layout machine.now) (M.Machine.meaning machine.now)) pass }
     ensures { KeepsOthers (state session.old (M.Chip.layout machine.now) (M.Machine.meaning machine.now)) pass.coupler (state session.new (M.Chip.layout machine.now) (M.Machine.meaning machine.now)) }
 {
-    match session.write_off(machine, pass) {
-        Ok(()) => {}
-        Err((_, _)) => unreachable(),
+    if let Err((_, _)) = session.write_off(machine, pass) {
+        unreachable()
     }
 }
 
-// What a take-out is refused with; one that is obeyed is undone.
-pub(crate) fn take_refusal<M: Machine>(
+// Takes a coupler out, and gives it back at once.
+pub(crate) fn take_and_give<M: Machine>(
     session: &mut Session,
     machine: &mut M,
     k: usize,
-) -> Option<SessionFault>
+) -> Result<(), SessionFault>
     ensures { Keeps (state session.old (M.Chip.layout machine.old) (M.Machine.meaning machine.old)) (state session.new (M.Chip.layout machine.new) (M.Machine.meaning machine.new)) }
 {
-    match session.take_out(machine, k) {
-        Ok(pass) => {
-            give(session, machine, pass);
-            None
+    let pass = session.take_out(machine, k)?;
+    give(session, machine, pass);
+    Ok(())
+}
+
+// Why a pass was turned down, by each way of ending it.
+#[derive(Clone, Copy, PartialEq, Eq, Debug)]
+pub(crate) struct Refusals {
+    give_back: SessionFault,
+    write_off: SessionFault,
+}
+
+impl Refusals {
+    // Both for one reason.
+    pub(crate) fn both(fault: SessionFault) -> Refusals {
+        Refusals {
+            give_back: fault,
+            write_off: fault,
         }
-        Err(fault) => Some(fault),
     }
 }
 
@@ -55,14 +66,18 @@ pub(crate) fn turned_down<M: Machine>(
     session: &mut Session,
     machine: &mut M,
     pass: Pass,
-) -> Result<([SessionFault; 2], Pass), Fail>
+) -> Result<(Refusals, Pass), Fail>
     ensures { IfOk result (λ x. (x.1 ≡ pass) × (state session.new (M.Chip.layout machine.new) (M.Machine.meaning machine.new) ≡ state session.old (M.Chip.layout machine.old) (M.Machine.meaning machine.old))) }
 {
-    match session.give_back(machine, pass) {
-        Ok(()) => Err(Fail::new("given back")),
-        Err((first, pass)) => match session.write_off(machine, pass) {
-            Ok(()) => Err(Fail::new("written off")),
-            Err((second, pass)) => Ok(([first, second], pass)),
-        },
-    }
+    let Err((give_back, pass)) = session.give_back(machine, pass) else {
+        return Err(Fail::new("given back"));
+    };
+    let Err((write_off, pass)) = session.write_off(machine, pass) else {
+        return Err(Fail::new("written off"));
+    };
+    let refusals = Refusals {
+        give_back,
+        write_off,
+    };
+    Ok((refusals, pass))
 }

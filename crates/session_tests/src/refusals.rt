@@ -1,7 +1,7 @@
 // Refusals, each with everything as it was: places, words, service, allowance, and the block, which the next flush shows.
 use crate::look::Look;
 use crate::machines::{check_words, table, tape};
-use crate::passes::{give, take_refusal, write};
+use crate::passes::{give, take_and_give, write};
 use chip::Chip;
 use machine::Machine;
 use machine::fault::MachineFault;
@@ -32,7 +32,7 @@ fn a_machine_that_is_not_new_is_refused(rt: HostRuntime) -> Result<(), Fail> {
     machine.set(0, true)?;
     machine.cnot(1, 0)?;
     check_not_new(&rt, "a word is not fresh", heap, &machine)?;
-    check_words(&rt, &machine, &[3, 2])?;
+    check_words(&rt, &machine, &[3, 2]);
     // the words are fresh again, and the allowance does not count
     machine.cnot(1, 0)?;
     assert_eq!(rt; Session::open(heap, 1, &machine)?.number(), 1);
@@ -60,12 +60,7 @@ fn check_bad_arguments<M: Machine>(
     assert_eq!(rt; session.place(4), Err(no_wire));
     let no_coupler = SessionFault::Machine(MachineFault::NoSuchCoupler);
     for k in [3, usize::MAX] {
-        assert_eq!(rt;
-            take_refusal(session, machine, k),
-            Some(no_coupler),
-            "{}",
-            k
-        );
+        assert_eq!(rt; take_and_give(session, machine, k), Err(no_coupler), "{k}");
     }
     let short = SessionFault::PlanBufferTooShort { needed: 24 };
     assert_eq!(rt; session.flush(machine, &mut [0; 23]), Err(short));
@@ -78,13 +73,12 @@ fn check_spent<M: Machine>(
     session: &mut Session,
     machine: &mut M,
 ) -> Result<(), Fail> {
-    match session.flush(machine, &mut [0; 24]) {
-        Err(SessionFault::Machine(MachineFault::AllowanceExceeded { asked, left })) => {
-            assert!(rt; asked > 0 && left == 0);
-            Ok(())
-        }
-        _ => Err(Fail::new("not refused for its gates")),
-    }
+    let answer = session.flush(machine, &mut [0; 24]);
+    let Err(SessionFault::Machine(MachineFault::AllowanceExceeded { asked, left })) = answer else {
+        return Err(Fail::new("not refused for its gates"));
+    };
+    assert!(rt; asked > 0 && left == 0);
+    Ok(())
 }
 
 #[test]
@@ -96,7 +90,7 @@ fn bad_arguments_change_nothing(rt: HostRuntime) -> Result<(), Fail> {
     let before = Look::of(&session, &machine);
     check_bad_arguments(&rt, &mut session, &mut machine)?;
     check_spent(&rt, &mut session, &mut machine)?;
-    before.check_same(&rt, &Look::of(&session, &machine))?;
+    assert_eq!(rt; Look::of(&session, &machine), before);
     // the block is still the one CX: the same again undoes it, and an exchange then takes no gate
     session.cx(0, 3)?;
     session.swap(0, 3)?;
@@ -114,13 +108,14 @@ fn refused_while_out<M: Machine>(
 ) -> Result<(), Fail> {
     let pass = session.take_out(machine, k)?;
     let before = Look::of(session, machine);
-    let taken = take_refusal(session, machine, k);
+    let taken = take_and_give(session, machine, k);
     let flushed = session.flush(machine, &mut [0; 24]);
     let after = Look::of(session, machine);
     give(session, machine, pass);
-    assert_eq!(rt; taken, Some(SessionFault::CouplerNotIn), "{k}");
+    assert_eq!(rt; taken, Err(SessionFault::CouplerNotIn), "{k}");
     assert_eq!(rt; flushed, Err(SessionFault::Unreachable), "{k}");
-    before.check_same(rt, &after)
+    assert_eq!(rt; after, before, "{k}");
+    Ok(())
 }
 
 // A coupler that is written off stays out, and is never taken out again.
@@ -132,8 +127,8 @@ fn check_written_off<M: Machine>(
 ) -> Result<(), Fail> {
     let pass = session.take_out(machine, k)?;
     write(session, machine, pass);
-    let fault = take_refusal(session, machine, k);
-    assert_eq!(rt; fault, Some(SessionFault::CouplerNotIn));
+    let taken = take_and_give(session, machine, k);
+    assert_eq!(rt; taken, Err(SessionFault::CouplerNotIn));
     assert_eq!(rt; machine.serves(k), Ok(false));
     Ok(())
 }

@@ -2,11 +2,15 @@
 use chip::Chip;
 use machine::Machine;
 use machine::fault::MachineFault;
+use parity::fresh_words;
+use replaying::islands::{islands, on_one_island, places_of};
+use replaying::words::{add, all_single, exchange};
 use session::store::Session;
 use session_fault::SessionFault;
-use std::fmt;
+use std::alloc::{AllocError, Global};
 use std::process::Abort;
 use std::test::*;
+use std::{array, fmt};
 
 // How far a random run is, said where a check fails.
 #[derive(Clone, Copy)]
@@ -38,7 +42,7 @@ pub(crate) enum Coupler {
     WrittenOff,
 }
 
-#[derive(Clone, Copy)]
+#[derive(Drop)]
 pub(crate) struct Sheet {
     // what each wire should carry after the calls obeyed so far, by inputs
     wanted: [u64; 64],
@@ -46,117 +50,76 @@ pub(crate) struct Sheet {
     carried: [u64; 64],
     // the block's words, by wires
     block: [u64; 64],
-    couplers: [Coupler; 256],
-    // how many couplers there are
-    count: usize,
-}
-
-// Bit w alone, for each w.
-fn single_words() -> [u64; 64] {
-    let mut words = [0; 64];
-    for w in 0..64 {
-        words[w] = 1 << w;
-    }
-    words
+    couplers: Vec<Coupler>,
 }
 
 impl Sheet {
-    pub(crate) fn new(count: usize) -> Sheet {
-        Sheet {
-            wanted: single_words(),
-            carried: single_words(),
-            block: single_words(),
-            couplers: [Coupler::In; 256],
-            count,
-        }
+    pub(crate) fn new(heap: Global, couplers: usize) -> Result<Sheet, AllocError> {
+        Ok(Sheet {
+            wanted: fresh_words(),
+            carried: fresh_words(),
+            block: fresh_words(),
+            couplers: vec![in heap; Coupler::In; couplers]?,
+        })
     }
 
-    pub(crate) fn cx(&mut self, rt: &impl Abort, a: usize, b: usize) -> Result<(), Fail> {
-        assert!(rt; a < 64 && b < 64);
-        self.wanted[b] ^= self.wanted[a];
-        self.block[b] ^= self.block[a];
-        Ok(())
+    pub(crate) fn cx(&mut self, a: usize, b: usize) -> Result<(), Fail> {
+        add(&mut self.wanted, a, b).ok_or("no such wire")?;
+        Ok(add(&mut self.block, a, b).ok_or("no such wire")?)
     }
 
-    pub(crate) fn swap(&mut self, rt: &impl Abort, a: usize, b: usize) -> Result<(), Fail> {
-        assert!(rt; a < 64 && b < 64);
-        let (wanted, block) = (self.wanted[a], self.block[a]);
-        self.wanted[a] = self.wanted[b];
-        self.block[a] = self.block[b];
-        self.wanted[b] = wanted;
-        self.block[b] = block;
-        Ok(())
+    pub(crate) fn swap(&mut self, a: usize, b: usize) -> Result<(), Fail> {
+        exchange(&mut self.wanted, a, b).ok_or("no such wire")?;
+        Ok(exchange(&mut self.block, a, b).ok_or("no such wire")?)
     }
 
     pub(crate) fn flushed(&mut self) {
         self.carried = self.wanted;
-        self.block = single_words();
+        self.block = fresh_words();
     }
 
-    // What a take-out of coupler k should be refused with.
-    pub(crate) fn take_refusal(&self, k: usize) -> Option<SessionFault> {
-        if k >= self.count || k >= 256 {
-            return Some(SessionFault::Machine(MachineFault::NoSuchCoupler));
-        }
-        match self.couplers[k] {
-            Coupler::In => None,
-            Coupler::Out | Coupler::WrittenOff => Some(SessionFault::CouplerNotIn),
+    // What a take-out of coupler k should be answered.
+    pub(crate) fn take_answer(&self, k: usize) -> Result<(), SessionFault> {
+        match self.couplers.get(k) {
+            Some(Coupler::In) => Ok(()),
+            Some(Coupler::Out | Coupler::WrittenOff) => Err(SessionFault::CouplerNotIn),
+            None => Err(SessionFault::Machine(MachineFault::NoSuchCoupler)),
         }
     }
 
     // A coupler was taken out, given back or written off.
     pub(crate) fn record(&mut self, k: usize, coupler: Coupler) {
-        if k < 256 {
-            self.couplers[k] = coupler;
+        if let Some(at) = self.couplers.get_mut(k) {
+            *at = coupler;
         }
     }
 
     fn serves(&self, k: usize) -> bool {
-        k < 256 && self.couplers[k] == Coupler::In
+        self.couplers.get(k) == Some(&Coupler::In)
     }
 
     // Whether the block only renames wires.
     pub(crate) fn renames(&self) -> bool {
-        for word in self.block.iter() {
-            if word.count_ones() != 1 {
-                return false;
-            }
-        }
-        true
+        all_single(&self.block)
     }
 
-    // For each place the set of places that hang together with it: places grow together over the couplers in service,
-    // and after a pass for each place nothing grows any more.
-    pub(crate) fn islands<M: Machine>(
-        &self,
-        rt: &impl Abort,
-        machine: &M,
-    ) -> Result<[u64; 64], Fail> {
-        let mut together = single_words();
-        for _ in 0..machine.width() {
-            for k in 0..machine.couplers() {
-                if self.serves(k) {
-                    let (left, right) = machine.ends(k)?;
-                    assert!(rt; left < 64 && right < 64);
-                    let both = together[left] | together[right];
-                    together[left] = both;
-                    together[right] = both;
-                }
-            }
-        }
-        Ok(together)
+    // The names of the islands over the couplers in service.
+    pub(crate) fn islands<M: Machine>(&self, machine: &M) -> [usize; 64] {
+        let service: [bool; 256] = array::from_fn(|k| self.serves(k));
+        islands(machine, &service)
     }
 
     // Whether each word of the block has the places of its wires on one island.
     pub(crate) fn reachable<M: Machine>(
         &self,
-        rt: &impl Abort,
         session: &Session,
         machine: &M,
     ) -> Result<bool, Fail> {
-        let together = self.islands(rt, machine)?;
-        for w in 0..64 {
-            if !on_one_island(places_of(rt, session, self.block[w])?, &together) {
+        let islands = self.islands(machine);
+        // no word has a wire that the session does not have
+        let places: [usize; 64] = array::from_fn(|w| session.place(w).unwrap_or(w));
+        for word in self.block.iter().take(session.wires()) {
+            if !on_one_island(places_of(*word, &places).ok_or("no such wire")?, &islands) {
                 return Ok(false);
             }
         }
@@ -170,39 +133,13 @@ impl Sheet {
         progress: Progress,
         session: &Session,
         machine: &M,
-    ) -> Result<(), Fail> {
-        for w in 0..64 {
+    ) {
+        for (w, carried) in self.carried.iter().enumerate() {
             if let Ok(place) = session.place(w) {
-                assert_eq!(rt; machine.word(place), Ok(self.carried[w]), "{progress}: {w}");
+                assert_eq!(rt; machine.word(place), Ok(*carried), "{progress}: {w}");
             }
         }
-        for k in 0..machine.couplers() {
-            assert_eq!(rt; machine.serves(k), Ok(self.serves(k)), "{progress}: {k}");
-        }
-        Ok(())
+        let service = (0..machine.couplers()).find(|&k| machine.serves(k) != Ok(self.serves(k)));
+        assert_eq!(rt; service, None, "{progress}");
     }
-}
-
-// The places of the wires in a word; wires that the session does not have are passed over.
-fn places_of(rt: &impl Abort, session: &Session, word: u64) -> Result<u64, Fail> {
-    let mut places = 0;
-    for w in 0..64 {
-        if (word >> w) & 1 == 1 {
-            if let Ok(p) = session.place(w) {
-                assert!(rt; p < 64);
-                places ^= 1u64 << p;
-            }
-        }
-    }
-    Ok(places)
-}
-
-// Whether the places of a set all hang together.
-fn on_one_island(set: u64, together: &[u64; 64]) -> bool {
-    for q in 0..64 {
-        if (set >> q) & 1 == 1 && set & !together[q] != 0 {
-            return false;
-        }
-    }
-    true
 }

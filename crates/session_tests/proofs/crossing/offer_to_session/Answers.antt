@@ -8,4 +8,4 @@ give-requires g c =
     let v = view c.take_out.new.self in
     let l = g.L.Chip.layout c.take_out.new.machine in
     let m = g.L.Machine.meaning c.take_out.new.machine in
-    moved v v l m _ c.in_ok-faults.pass (take_ends _ _ _ _ c.in_ok-pass.ensures) c.in_ok-faults.ensures.0 refl
+    moved v v l m _ c.in_ok-refusals.pass (take_ends _ _ _ _ c.in_ok-pass.ensures) c.in_ok-refusals.ensures.0 refl

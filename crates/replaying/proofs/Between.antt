@@ -1,0 +1,50 @@
+-- A search among the couplers of a machine.
+use Rattle.std.proofs.Common.{◌≡◌, ◌<◌, ◌≤◌, ℕ, Bool, List, length, true, false, refl, IsTrue, ◌↔◌, MatchBool, get_or, subst, ap, ◌∙◌, ◌+◌, MatchOption, None, Some, Option, arith}
+use Rattle.std.specs.List.{AllWithin, HoldsAt, enumerate_from}
+use Rattle.std.proofs.lemmas.List.FromFn.{length-enumerate_from, get_or-enumerate_from}
+use Rattle.chip.specs.Layout.{Layout}
+use Rattle.machine.specs.OnCoupler.{OnCoupler}
+use Rattle.replaying.specs.Gates.{ServesBetween}
+
+-- the first coupler that lets the gate through, of them all, is one that does, and where there is none the gate is on no coupler
+pub first_between : (l : Layout) (service : List Bool) (a b m : ℕ) (r : Option ℕ) → m ≡ length l.couplers
+    → MatchOption r ((k : ℕ) → 0 ≤ k → k < m → ServesBetween l service a b k → ⊥)
+    (λ i. (0 ≤ i) × (i < m) × ServesBetween l service a b i × ((k : ℕ) → 0 ≤ k → k < i → ServesBetween l service a b k → ⊥))
+    → MatchOption r (OnCoupler l service (a, b) → ⊥) (λ k. ServesBetween l service a b k)
+first_between l service a b m None e none = λ o.
+    let there = o.joins.there in
+    none o.coupler (omega arith) (omega arith) (record { joins = o.joins; serves = o.serves })
+first_between l service a b m (Some k) e (low, high, there, none) = there
+
+numbered : (ws : List ℕ) (q : ℕ) → q < length ws → get_or (enumerate_from 0 ws) q (0, 0) ≡ (q, get_or ws q 0)
+numbered ws q h = let e : 0 + q ≡ q = omega arith in get_or-enumerate_from 0 ws q (0, 0) h ∙ ap (λ (n : ℕ). (n, get_or ws q 0)) e
+
+-- of numbered items, the first that is not as asked, told by its number
+pub first_numbered : (ws : List ℕ) (r : Option ℕ) (P : ℕ → ℕ → Type 0)
+    → MatchOption r (AllWithin (λ (e : ℕ × ℕ). P e.0 e.1) (enumerate_from 0 ws) 0 (length (enumerate_from 0 ws)))
+    (λ i. (i < length (enumerate_from 0 ws)) × HoldsAt (λ (e : ℕ × ℕ). P e.0 e.1 → ⊥) (enumerate_from 0 ws) i × AllWithin (λ (e : ℕ × ℕ). P e.0 e.1) (enumerate_from 0 ws) 0 i)
+    → MatchOption r ((q : ℕ) → q < length ws → P q (get_or ws q 0)) (λ q. (q < length ws) × (P q (get_or ws q 0) → ⊥))
+first_numbered ws None P all = λ q h.
+    let len = length-enumerate_from 0 ws in
+    subst (λ (e : ℕ × ℕ). P e.0 e.1) (numbered ws q h) (all q (0, 0) (omega arith) (omega arith))
+first_numbered ws (Some q) P (low, holds, before) =
+    let len = length-enumerate_from 0 ws in
+    let h : q < length ws = omega arith in
+    (h, subst (λ (e : ℕ × ℕ). P e.0 e.1 → ⊥) (numbered ws q h) (holds (0, 0)))
+
+-- whether all numbered items are as asked, of which there are n
+pub all_numbered : (ws : List ℕ) (n : ℕ) (r : Bool) (P : ℕ → ℕ → Type 0) → length ws ≡ n
+    → MatchBool r (AllWithin (λ (e : ℕ × ℕ). P e.0 e.1) (enumerate_from 0 ws) 0 (length (enumerate_from 0 ws)))
+    ((k : ℕ) × (k < length (enumerate_from 0 ws)) × HoldsAt (λ (e : ℕ × ℕ). P e.0 e.1 → ⊥) (enumerate_from 0 ws) k)
+    → IsTrue r ↔ ((q : ℕ) → q < n → P q (get_or ws q 0))
+all_numbered ws n true P wide all = (
+  λ _ q h.
+      let len = length-enumerate_from 0 ws in
+      let less : q < length ws = omega arith in
+      subst (λ (e : ℕ × ℕ). P e.0 e.1) (numbered ws q less) (all q (0, 0) (omega arith) (omega arith)),
+  λ _. refl,
+)
+all_numbered ws n false P wide (q, less, holds) =
+    let len = length-enumerate_from 0 ws in
+    let h : q < length ws = omega arith in
+    (λ t. let no : ◌≡◌ {A = ℕ} 0 1 = cc in absurd (omega arith), λ f. absurd (subst (λ (e : ℕ × ℕ). P e.0 e.1 → ⊥) (numbered ws q h) (holds (0, 0)) (f q (omega arith))))

@@ -1,0 +1,3 @@
+pub mod Between
+pub mod Naming
+pub mod Placed

@@ -1,0 +1,10 @@
+-- The word at a place of a machine.
+use Rattle.std.specs.Prelude.{◌≡◌, ℕ, ◌<◌}
+use Rattle.chip.specs.Layout.{Layout}
+use Rattle.machine.specs.Meaning.{Meaning}
+use Rattle.machine.specs.Calls.{word_at}
+
+-- there is a place q, and it has the word
+pub record HasWord (l : Layout) (m : Meaning) (q word : ℕ) : Type 0 where
+  pub there : q < l.places
+  pub same : word_at m q ≡ word
