@@ -3,10 +3,10 @@ use Rattle.std.proofs.Common.{◌≡◌, ℕ, Some, None, Ok, Err, Option, Resul
 use Rattle.chip.specs.Answers.{answered}
 
 err_ok : {F A : Type 0} (f : F) (a : A) → ◌≡◌ {A = Result A F} (Err f) (Ok a) → ⊥
-err_ok f a h = let z : ◌≡◌ {A = ℕ} 0 1 = cc in omega arith
+err_ok f a h = cc
 
 ok_err : {F A : Type 0} (f : F) (a : A) → ◌≡◌ {A = Result A F} (Ok a) (Err f) → ⊥
-ok_err f a h = let z : ◌≡◌ {A = ℕ} 0 1 = cc in omega arith
+ok_err f a h = cc
 
 -- an obeyed call had no fault
 pub answered_ok : {F A : Type 0} (o : Option F) (a b : A) (r : Result A F) → r ≡ answered o a → r ≡ Ok b → o ≡ None

@@ -44,7 +44,7 @@ found_by false a b j k e es t rest h = let r = rest h in (suc r.0, let x = r.1 i
 
 found : (a b j k : ℕ) (es : List (ℕ × ℕ)) → joining_from a b j es ≡ Some k
     → (i : ℕ) × (i < length es) × (k ≡ j + i) × (touches a b (get_or es i (0, 0)) ≡ true)
-found a b j k [] h = let z : ◌≡◌ {A = ℕ} 0 1 = cc in absurd (omega arith)
+found a b j k [] h = absurd cc
 found a b j k (e ∷ es) h = found_by (touches a b e) a b j k e es refl (found a b (j + 1) k es) h
 
 -- the first that touches is found

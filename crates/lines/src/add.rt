@@ -3,6 +3,7 @@ ghost use Rattle.std.specs.Prelude.{◌≡◌, ℕ, List, ◌++◌, string_bytes
 ghost use Rattle.parity.specs.Words.{gate_of};
 ghost use Rattle.lines.specs.Lines.{texts, spaced_number, spaced_gate};
 
+use parity::sets::ends_of;
 use std::alloc::AllocError;
 
 // What a line shows with a space before it.
@@ -36,8 +37,7 @@ impl Spaced for u16 {
     ghost text = { λ e. spaced_gate (gate_of e) };
 
     fn add_to(&self, line: &mut String) -> Result<(), AllocError> {
-        let control = *self / 64;
-        let target = *self % 64;
+        let (control, target) = ends_of(*self);
         write!(line, " {control}>{target}")
     }
 }

@@ -41,10 +41,10 @@ on_coupler_obeys l s g so on =
     rw (inside, two, found, on.serves) refl
 
 some_none : {F : Type 0} (f : F) → Some f ≡ None → ⊥
-some_none f h = let z : ◌≡◌ {A = ℕ} 0 1 = cc in omega arith
+some_none f h = cc
 
 true_false : true ≡ false → ⊥
-true_false h = let z : ◌≡◌ {A = ℕ} 0 1 = cc in omega arith
+true_false h = cc
 
 served : (l : Layout) (s : Meaning) (g : Gate) (o : Option ℕ) → joining g.0 g.1 l.couplers ≡ o → in_service s o ≡ true → OnCoupler l s.service g
 served l s g None e on = absurd (true_false (sym on))
@@ -71,7 +71,7 @@ obeys_exactly l s g so h = (
 )
 
 ok_err : (r : Result Bool MachineFault) (b : Bool) (f : MachineFault) → r ≡ Ok b → r ≡ Err f → ⊥
-ok_err r b f p q = let z : ◌≡◌ {A = ℕ} 0 1 = cc in omega arith
+ok_err r b f p q = cc
 
 -- `serves` does not refuse a coupler that joins two places
 pub found_serves : (l : Layout) (s : Meaning) (a b k : ℕ) (r : Result Bool MachineFault) (f : MachineFault)

@@ -66,16 +66,16 @@ checked file = by_header (cases_lt (length file) 3)
 
 -- a file has one answer
 not_some : {f : Option ChipFault} (a : ChipFault) → f ≡ None → f ≡ Some a → ⊥
-not_some a p q = let z : ◌≡◌ {A = ℕ} 0 1 = cc in omega arith
+not_some a p q = cc
 
 length_not_size : {f : Option ChipFault} → f ≡ Some WrongLength → f ≡ Some SizeOffLimits → ⊥
-length_not_size p q = let z : ◌≡◌ {A = ℕ} 0 1 = cc in omega arith
+length_not_size p q = cc
 
 length_not_coupler : {f : Option ChipFault} (k : ℕ) → f ≡ Some WrongLength → f ≡ Some (BadCoupler k) → ⊥
-length_not_coupler k p q = let z : ◌≡◌ {A = ℕ} 0 1 = cc in omega arith
+length_not_coupler k p q = cc
 
 size_not_coupler : {f : Option ChipFault} (k : ℕ) → f ≡ Some SizeOffLimits → f ≡ Some (BadCoupler k) → ⊥
-size_not_coupler k p q = let z : ◌≡◌ {A = ℕ} 0 1 = cc in omega arith
+size_not_coupler k p q = cc
 
 same_coupler : {f : Option ChipFault} (j k : ℕ) → f ≡ Some (BadCoupler j) → f ≡ Some (BadCoupler k) → j ≡ k
 same_coupler j k p q = cc
@@ -218,8 +218,8 @@ pub never_for_memory : NeverForMemory
 never_for_memory file off = by (checked file)
   where
     by : Checked file → ⊥
-    by (short h is) = let z : ◌≡◌ {A = ℕ} 0 1 = cc in omega arith
-    by (sizes_off h s is) = let z : ◌≡◌ {A = ℕ} 0 1 = cc in omega arith
-    by (length_off h s n is) = let z : ◌≡◌ {A = ℕ} 0 1 = cc in omega arith
-    by (coupler_off k h s e b is) = let z : ◌≡◌ {A = ℕ} 0 1 = cc in omega arith
+    by (short h is) = cc
+    by (sizes_off h s is) = cc
+    by (length_off h s n is) = cc
+    by (coupler_off k h s e b is) = cc
     by (passed h s e none is) = not_some NoMemory is off

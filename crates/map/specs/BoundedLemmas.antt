@@ -100,13 +100,13 @@ none_least p n h = by (least_cases p n)
   where
     by : ((least_below p n ≡ None) × (any_below p n ≡ false)) ⊎ ((k : ℕ) × (least_below p n ≡ Some k) × Least p n k) → any_below p n ≡ false
     by (inl none) = none.1
-    by (inr some) = let e = some.1 in let z : ◌≡◌ {A = ℕ} 0 1 = cc in absurd (omega arith)
+    by (inr some) = let e = some.1 in absurd cc
 
 pub least_at : (p : ℕ → Bool) (n k : ℕ) → least_below p n ≡ Some k → Least p n k
 least_at p n k h = by (least_cases p n)
   where
     by : ((least_below p n ≡ None) × (any_below p n ≡ false)) ⊎ ((j : ℕ) × (least_below p n ≡ Some j) × Least p n j) → Least p n k
-    by (inl none) = let e = none.0 in let z : ◌≡◌ {A = ℕ} 0 1 = cc in absurd (omega arith)
+    by (inl none) = let e = none.0 in absurd cc
     by (inr some) =
         let e = some.1 in
         let same : some.0 ≡ k = cc in

@@ -21,17 +21,6 @@ returns-in_err-play_entry g c =
       same_chip = c.play_entry.ensures.same_chip ∙ c.loop-e.invariant.0;
     }
 
-pub loop-e-preserved : goal.loop-e-preserved
-loop-e-preserved g c =
-    let l = g.M.Chip.layout c.args.machine.now in
-    let k = g.M.Chip.layout c.loop-e.machine in
-    let s = g.M.Machine.meaning c.loop-e.machine in
-    let t = g.M.Machine.meaning c.play_entry.new.machine in (
-      c.play_entry.ensures.same_chip ∙ c.loop-e.invariant.0,
-      c.loop-e.invariant.1 ∙ step_obeyed l k s t c.play_entry.result c.args.entries.now c.loop-e.e-index c.loop-e-test.true
-          c.loop-e.invariant.0 c.play_entry.ensures.turn c.in_ok-play_entry.was,
-    )
-
 pub returns : goal.returns
 returns g c =
     let e = c.loop-e.invariant.1 ∙ outcome_done _ _ _ _ c.loop-e-test.false in

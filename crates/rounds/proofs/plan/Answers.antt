@@ -38,14 +38,6 @@ not_found : (o : Option ℕ) → is_some o ≡ false → o ≡ None
 not_found (Some w) e = absurd (true≢false e)
 not_found None _ = refl
 
--- no way
-pub first_straddling-requires : goal.first_straddling-requires
-first_straddling-requires c = record {
-  small = c.requires.small;
-  graph = c.requires.graph;
-  below = c.requires.sets_below;
-}
-
 pub returns-then-is_some : goal.returns-then-is_some
 returns-then-is_some c =
     let f = found c.first_straddling.result (sym c.if-is_some.ensures) in

@@ -3,9 +3,6 @@ use Rattle.closing.specs.Good.{filled_count}
 use Rattle.closing.proofs.Keeping.{can_end, ended_good, count_more, count_within}
 use Rattle.closing.proofs.close.end_all.Goals as goal
 
-pub end_slot-passes-requires : goal.end_slot-passes-requires
-end_slot-passes-requires g c = can_end _ (vec_items c.loop-slot.slots) (vec_items c.pop.new.self) c.in-Some.slot c.in-Some.ensures.items c.loop-slot.invariant.0
-
 pub overflow_add-passes : goal.overflow_add-passes
 overflow_add-passes g c =
     let count = count_more (vec_items c.loop-slot.slots) (vec_items c.pop.new.self) c.in-Some.slot c.loop-slot.passes c.end_slot-passes.result (filled_count (vec_items c.args.slots.now))

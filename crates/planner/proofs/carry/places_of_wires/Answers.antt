@@ -1,7 +1,5 @@
 use Rattle.std.proofs.Common.{◌≡◌, ℕ, ◌^◌, ◌<◌, ◌≤◌, length, get_or, get_or-take, sym, ap, ◌∙◌, arith}
 use lib.Bits.{bit_xor}
-use Rattle.std.proofs.lemmas.List.{take_all}
-use Rattle.parity.specs.Placements.{wires_to_places}
 use Rattle.parity.proofs.Masks.{set_from, clear_from}
 use Rattle.planner.specs.declared.store.Places.{Places}
 use Rattle.planner.proofs.Asking.{first_of_64}
@@ -31,6 +29,3 @@ loop-w-preserved c =
           ∙ sym (places_more_on at i x h (set_from x i w.if-has.ensures))
       | goal.else-has w ↦ w.set-is ∙ c.loop-w.invariant ∙ sym (places_more_off at i x h (clear_from x i w.if-has.ensures))
     ]
-
-pub returns : goal.returns
-returns c = c.loop-w.invariant ∙ ap (λ l. wires_to_places l c.args.x) (take_all c.loop-w.w (places_of c.args.places.now) (omega arith))

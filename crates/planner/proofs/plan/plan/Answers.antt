@@ -1,35 +1,11 @@
-use Rattle.std.proofs.Common.{◌≡◌, ℕ, ◌^◌, ◌<◌, ◌≤◌, length, get_or, take, replicate, sym, refl, ◌∙◌, subst, arith, get_or-take}
+use Rattle.std.proofs.Common.{◌≡◌, ℕ, ◌<◌, ◌≤◌, length, take, sym, refl, ◌∙◌, subst, arith, get_or-take}
 use Rattle.parity.specs.Entries.{gates_in}
-use Rattle.parity.specs.Placements.{Placement}
 use Rattle.islands.specs.Graphs.{OnEdge}
-use Rattle.rounds.specs.Duals.{Paired}
 use Rattle.planner.specs.declared.plan.Planned.{Planned}
-use Rattle.planner.specs.Plans.{room, PlanIn, NoPlan}
-use Rattle.planner.specs.Views.{neighbours_of, words_of, duals_of, places_of, PlanFor}
-use Rattle.planner.proofs.Asking.{neighbours_length, neighbours_graph, words_length, duals_length, words_below, duals_below, block_paired, places_placement, first_of_64, ok_same}
+use Rattle.planner.specs.Plans.{room, PlanIn}
+use Rattle.planner.specs.Views.{neighbours_of, words_of, places_of, PlanFor}
+use Rattle.planner.proofs.Asking.{neighbours_length, ok_same}
 use Rattle.planner.proofs.plan.plan.Goals as goal
-
-pub plan_lists-requires : goal.plan_lists-requires
-plan_lists-requires c =
-    let a = c.args.adjacency.now in
-    let b = c.args.block.now in
-    let p = c.args.places.now in
-    let s : (c.args.block.now.n ≡ c.args.adjacency.now.n) × (c.args.places.now.n ≡ c.args.adjacency.now.n) = (c.if-block-n.false, c.if-places-n.false) in
-    let l = neighbours_length a in
-    let f : a.n ≤ 64 = a.few in
-    let same_b : length (neighbours_of a) ≡ b.n = l ∙ sym s.0 in
-    let same_p : length (neighbours_of a) ≡ p.n = l ∙ sym s.1 in
-    record {
-      small = omega arith;
-      graph = neighbours_graph a;
-      lengths = (words_length b ∙ sym same_b, duals_length b ∙ sym same_b);
-      scratch = (first_of_64 a.n (replicate 64 0) refl f ∙ sym l, first_of_64 a.n (replicate 64 0) refl f ∙ sym l);
-      below = subst (λ (m : ℕ). (w : ℕ) → w < m → get_or (words_of b) w 0 < 2 ^ m) (sym same_b) (words_below b);
-      duals_below = subst (λ (m : ℕ). (w : ℕ) → w < m → get_or (duals_of b) w 0 < 2 ^ m) (sym same_b) (duals_below b);
-      paired = subst (λ (m : ℕ). Paired m (words_of b) (duals_of b)) (sym same_b) (block_paired b);
-      placed = subst (λ (m : ℕ). Placement m (places_of p)) (sym same_p) (places_placement p);
-      room = (subst (λ (m : ℕ). room m ≤ length c.args.out.now) (sym l) c.if-out-needed.false, omega arith);
-    }
 
 -- the plan that was found, over n in place of the length of the adjacency
 pub invariant_of-places : goal.invariant_of-places
@@ -66,20 +42,4 @@ returns c =
       short_exactly = λ needed. ((λ e. absurd cc), (λ t. absurd (let h = t.1 in omega arith)));
       mismatch_exactly = ((λ e. absurd cc), (λ no. absurd (no (s.0, s.1))));
       refused_untouched = λ f e. absurd cc;
-    }
-
-pub returns-in_default : goal.returns-in_default
-returns-in_default c =
-    let a = c.args.adjacency.now in
-    let s : (c.args.block.now.n ≡ c.args.adjacency.now.n) × (c.args.places.now.n ≡ c.args.adjacency.now.n) = (c.if-block-n.false, c.if-places-n.false) in
-    let enough : room a.n ≤ length c.args.out.now = c.if-out-needed.false in
-    let none = subst (λ (m : ℕ). NoPlan (OnEdge (neighbours_of a)) m (words_of c.args.block.now) (places_of c.args.places.now))
-    (neighbours_length a) (c.plan_lists.ensures.unreachable c.in_default.is) in
-    record {
-      planned = λ p e. absurd cc;
-      unreachable_exactly = ((λ _. ((s.0, s.1), enough, none)), (λ _. refl));
-      needs_two_islands = λ _. c.plan_lists.ensures.needs_two_islands c.in_default.is;
-      short_exactly = λ needed. ((λ e. absurd cc), (λ t. absurd (let h = t.1 in omega arith)));
-      mismatch_exactly = ((λ e. absurd cc), (λ no. absurd (no (s.0, s.1))));
-      refused_untouched = λ f e. c.plan_lists.ensures.untouched c.in_default.is;
     }

@@ -1,30 +1,12 @@
-use Rattle.std.proofs.Common.{◌≡◌, ℕ, ◌^◌, ◌<◌, ◌≤◌, map, length, get_or, replicate, sym, refl, ◌∙◌, subst, arith}
+use Rattle.std.proofs.Common.{◌≡◌, ℕ, ◌^◌, ◌<◌, map, length, get_or, sym, ◌∙◌, subst}
 use Rattle.std.proofs.lemmas.List.{length-map}
-use Rattle.parity.specs.Placements.{Placement, wires_to_places}
+use Rattle.parity.specs.Placements.{wires_to_places}
 use Rattle.rounds.specs.Ways.{OneIsland, Straddles}
 use Rattle.planner.specs.Views.{neighbours_of, words_of, places_of}
-use Rattle.planner.proofs.Asking.{neighbours_length, neighbours_graph, words_length, words_below, places_placement, first_of_64}
+use Rattle.planner.proofs.Asking.{neighbours_length, words_length, words_below, places_placement}
 use Rattle.planner.proofs.Planning.{wanted_at}
 use Rattle.planner.proofs.Couplers.{straddles_over, one_island_over}
 use Rattle.planner.proofs.reason.first_on_two_islands.Goals as goal
-
-pub first_in_lists-requires : goal.first_in_lists-requires
-first_in_lists-requires g c =
-    let a = c.of-adjacency.result in
-    let b = c.args.block.now in
-    let p = c.args.places.now in
-    let s : (c.args.block.now.n ≡ c.of-adjacency.result.n) × (c.args.places.now.n ≡ c.of-adjacency.result.n) = (c.if-block-n.false, c.if-places-n.false) in
-    let l = neighbours_length a in
-    let f : a.n ≤ 64 = a.few in
-    let same_b : length (neighbours_of a) ≡ b.n = l ∙ sym s.0 in
-    let same_p : length (neighbours_of a) ≡ p.n = l ∙ sym s.1 in
-    record {
-      small = omega arith;
-      graph = neighbours_graph a;
-      lengths = (words_length b ∙ sym same_b, first_of_64 a.n (replicate 64 0) refl f ∙ sym l);
-      below = subst (λ (m : ℕ). (w : ℕ) → w < m → get_or (words_of b) w 0 < 2 ^ m) (sym same_b) (words_below b);
-      placed = subst (λ (m : ℕ). Placement m (places_of p)) (sym same_p) (places_placement p);
-    }
 
 pub returns : goal.returns
 returns g c =

@@ -17,15 +17,6 @@ use Rattle.rounds.specs.Duals.{Moved}
 use Rattle.rounds.proofs.Moving.{moved_append, dual_has}
 use Rattle.rounds.proofs.round.bring_both.Goals as goal
 
-pub bring-mid-requires : goal.bring-mid-requires
-bring-mid-requires c = record {
-  inside = c.requires.inside;
-  some = dot_some (get_or c.args.wanted.now c.args.w 0) (get_or c.args.duals.now c.args.w 0) c.requires.paired;
-  on_island = c.requires.on_island;
-  alive = c.requires.alive;
-  room = omega arith;
-}
-
 pub carry-requires : goal.carry-requires
 unfolding gates_in
 carry-requires c = each_map (TwoPlaces (length c.args.graph.now.rows.now)) (TwoPlaces 64) (two_places_more (length c.args.graph.now.rows.now) 64 c.args.graph.now.small)

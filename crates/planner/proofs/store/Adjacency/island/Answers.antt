@@ -1,27 +1,13 @@
-use Rattle.std.proofs.Common.{ℕ, ◌-◌, ◌^◌, ◌<◌, ◌≤◌, length, sym, ap, ◌∙◌, subst, arith}
+use Rattle.std.proofs.Common.{ℕ, ◌<◌, ap, ◌∙◌, arith}
 use Rattle.parity.specs.Sets.{bit}
 use Rattle.parity.proofs.Bits.{zero_one, bit_none}
 use Rattle.rounds.proofs.Ways.{reach_way, way_reach}
-use Rattle.rounds.proofs.Costs.{all_below_has, all_below_low}
-use Rattle.planner.specs.Views.{neighbours_of}
+use Rattle.rounds.proofs.Costs.{all_below_has}
 use Rattle.planner.proofs.Asking.{neighbours_length, neighbours_graph}
 use Rattle.planner.proofs.store.Adjacency.island.Goals as goal
 
 pub returns-then-p-self : goal.returns-then-p-self
 returns-then-p-self c q = ((λ o. zero_one (bit 0 q) (bit_none q) o), (λ t. absurd (let h = t.0 in omega arith)))
-
-pub invariant_of-graph : goal.invariant_of-graph
-invariant_of-graph c =
-    let a = c.args.self.now in
-    let l = neighbours_length a in
-    let f : a.n ≤ 64 = a.few in
-    record {
-      small = omega arith;
-      inside = subst (λ (x : ℕ). x < 2 ^ length (neighbours_of a)) (sym (c.all_below.ensures.places f)) (subst (λ (m : ℕ). 2 ^ a.n - 1 < 2 ^ m) (sym l) (all_below_low a.n));
-    }
-
-pub island_of-requires : goal.island_of-requires
-island_of-requires c = let l = neighbours_length c.args.self.now in omega arith
 
 pub returns : goal.returns
 returns c q =
