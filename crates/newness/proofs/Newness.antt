@@ -1,13 +1,11 @@
 -- Whether a machine is new.
-use Rattle.std.proofs.Common.{◌≡◌, ℕ, ◌^◌, ◌<◌, Bool, true, false, List, length, get_or, replicate, sym, ap, ◌∙◌, ◌+◌, subst, arith}
+use Rattle.std.proofs.Common.{◌≡◌, ℕ, ◌<◌, Bool, true, false, List, length, get_or, replicate, sym, ◌∙◌, subst, arith}
 use lib.ListN.{length-replicate, get_or-replicate}
 use Rattle.std.specs.Bool.{MatchBool}
 use Rattle.std.specs.List.{range_with_len, AllWithin}
 use Rattle.std.proofs.lemmas.Bool.{false≢true}
 use Rattle.std.proofs.lemmas.List.{ext_get_or}
 use Rattle.std.proofs.lemmas.List.FromFn.{length-range_with_len, get_or-range_with_len}
-use Rattle.parity.specs.Words.{fresh}
-use Rattle.parity.proofs.Words.{get_d_fresh}
 
 pub all_true : (marks : List Bool) (n : ℕ) → length marks ≡ n → ((j : ℕ) → j < n → get_or marks j false ≡ true) → marks ≡ replicate n true
 all_true marks n len each =

@@ -1,9 +1,7 @@
 -- Laws of fresh words, replays and entries.
-use Rattle.std.proofs.Common.{◌≡◌, ℕ, ◌+◌, ◌*◌, ◌/◌, ◌%◌, ◌^◌, ◌<◌, ◌≤◌, ◌⊎◌, List, [], ◌∷◌, ◌++◌, map, length, get_or, take, drop, set, refl, ap, ◌∙◌, ap₂, inl, inr, add-one, arith, length-set, drop-cons, get_or-set_other, get_or-set_same, pow_pos}
+use Rattle.std.proofs.Common.{◌≡◌, ℕ, ◌+◌, ◌/◌, ◌%◌, ◌^◌, ◌<◌, ◌≤◌, ◌⊎◌, List, [], ◌∷◌, ◌++◌, map, length, get_or, take, drop, set, refl, ap, ◌∙◌, ap₂, inl, inr, add-one, arith, length-set, drop-cons, get_or-set_other, get_or-set_same, pow_pos}
 use lib.Pow.{pow-lt}
 use lib.Bits.{bit_xor, xor_lt, xor_zero_l}
-use Rattle.std.proofs.lemmas.Nat.{one_shl}
-use Rattle.std.proofs.lemmas.List.Edits.{fill_by_more}
 use Rattle.std.proofs.lemmas.List.FromFn.{length-map-range_with_len, get_or-map-range_with_len, take-map-range_with_len, fill_by_all}
 use Rattle.std.proofs.lemmas.List.{at_drop_all, get_or_past, set_past, set-get_or}
 use Rattle.std.proofs.lemmas.Bool.{cases_lt, cases_eq}

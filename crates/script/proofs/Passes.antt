@@ -1,5 +1,5 @@
 -- A pass turned down is in its slot again.
-use Rattle.std.proofs.Common.{◌≡◌, ℕ, get_or, set, Some, None, Ok, Err, Option, Result, sym, ap, ◌∙◌, arith}
+use Rattle.std.proofs.Common.{◌≡◌, ℕ, get_or, set, Some, None, Ok, Err, Option, Result, sym, ap, ◌∙◌}
 use Rattle.std.proofs.lemmas.List.{set-set, set-get_or}
 use Rattle.session_fault.specs.declared.SessionFault.{SessionFault}
 use Rattle.session.specs.declared.pass.Pass.{Pass}

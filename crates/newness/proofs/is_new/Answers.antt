@@ -1,4 +1,4 @@
-use Rattle.std.proofs.Common.{◌≡◌, ℕ, ◌<◌, List, length, get_or, true, false, refl, sym, ap, ◌∙◌}
+use Rattle.std.proofs.Common.{ℕ, List, length, get_or, refl, ap, ◌∙◌}
 use Rattle.parity.proofs.Words.{fresh_from, get_d_fresh}
 use Rattle.newness.proofs.Newness.{all_true}
 use Rattle.newness.proofs.is_new.Goals as goal

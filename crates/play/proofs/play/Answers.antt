@@ -1,7 +1,7 @@
 use Rattle.std.proofs.Common.{Err, sym, ap, ◌∙◌}
 use Rattle.std.proofs.lemmas.Result.{err_from_is_err_and}
 use Rattle.play.specs.Playing.{Outcome}
-use Rattle.play.proofs.Outcomes.{step_obeyed, step_refused, outcome_done, all_played}
+use Rattle.play.proofs.Outcomes.{step_refused, outcome_done, all_played}
 use Rattle.play.proofs.play.Goals as goal
 
 pub returns-in_err-play_entry : goal.returns-in_err-play_entry

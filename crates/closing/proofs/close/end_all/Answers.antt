@@ -1,6 +1,6 @@
 use Rattle.std.proofs.Common.{vec_items, arith}
 use Rattle.closing.specs.Good.{filled_count}
-use Rattle.closing.proofs.Keeping.{can_end, ended_good, count_more, count_within}
+use Rattle.closing.proofs.Keeping.{ended_good, count_more, count_within}
 use Rattle.closing.proofs.close.end_all.Goals as goal
 
 pub overflow_add-passes : goal.overflow_add-passes

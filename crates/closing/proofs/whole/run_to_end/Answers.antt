@@ -1,9 +1,5 @@
-use Rattle.std.proofs.Common.{◌≡◌, length, vec_items, ap, ◌∙◌, subst, arith}
-use Rattle.session.specs.Views.{state}
-use Rattle.script.specs.Slots.{Slots}
-use Rattle.script.specs.Turns.{bench, with, Ran}
-use Rattle.closing.specs.Good.{filled_count}
-use Rattle.closing.proofs.Keeping.{lent_items, lent_good}
+use Rattle.std.proofs.Common.{◌≡◌, length, vec_items, arith}
+use Rattle.closing.proofs.Keeping.{lent_good}
 use Rattle.closing.proofs.whole.run_to_end.Goals as goal
 
 pub close-requires : goal.close-requires

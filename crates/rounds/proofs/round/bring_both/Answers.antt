@@ -10,7 +10,7 @@ use Rattle.parity.proofs.Bits.{zero_one, bit_cases, bit_some}
 use Rattle.parity.proofs.Masks.{and_in, and_parts, and_same}
 use Rattle.parity.proofs.Each.{each_map, each_turned, two_places_more}
 use Rattle.parity.proofs.Gates.{acts_agree}
-use Rattle.parity.proofs.Pairing.{dot_some, turned_append, turned_twice, turned_still}
+use Rattle.parity.proofs.Pairing.{turned_append, turned_twice, turned_still}
 use Rattle.parity.proofs.Entries.{gates_in_append, each_more, front_kept, back_kept, put_front, put_back, put_gates}
 use Rattle.islands.specs.Graphs.{Reach, here, OnEdge, OnIsland}
 use Rattle.rounds.specs.Duals.{Moved}
