@@ -45,6 +45,7 @@ pub fn read(line: &[u8]) -> Result<Command<'_>, Mistake>
 }
 
 // A verb's command, from the words behind its name.
+// Kept: each verb takes other words, so a table of closures would have to give them one shape.
 fn command_of(verb: Verb, rest: &[u8]) -> Option<Command<'_>>
     ensures { MatchOption result (Unfilled (shape verb) (words rest.now)) (λ c. Says (name_of verb ∷ words rest.now) c) }
 {

@@ -120,6 +120,7 @@ impl Mistake {
     }
 }
 
+// Kept: clauses say what is written, and thiserror's derive promises nothing of its text.
 impl fmt::Display for Mistake {
     ghost output = { λ m. Some (codes "expected: " ++ wanted m) };
 

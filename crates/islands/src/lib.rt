@@ -42,6 +42,7 @@ impl LiveGraph<'_> {
 
     // Writes the island of root as a tree, breadth first: its places into order, the root first, and the parent
     // of each other place into parent. Returns how many places there are.
+    // Kept: arrays of the caller's with their length beside them, since a list of the library's would need a heap.
     pub fn tree_order(&self, root: usize, order: &mut [usize], parent: &mut [usize]) -> usize
         requires inside { root < length self.now.rows.now }
         requires room { (length self.now.rows.now ≤ length order.old) × (length self.now.rows.now ≤ length parent.old) }

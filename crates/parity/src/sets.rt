@@ -96,6 +96,7 @@ pub fn pairing(x: u64, y: u64) -> u32
 }
 
 // The set x after the gate with control c and target t; x itself for a control past the last place.
+// Kept: control and target are two numbers, here and wherever a gate is asked for, as a CNOT is commonly written.
 pub fn acted(x: u64, c: usize, t: usize) -> u64
     ensures places { c < 64 → result ≡ act (c, t) x }
     ensures past { 64 ≤ c → result ≡ x }
@@ -112,6 +113,7 @@ fn flipped(x: u64, c: usize, t: usize) -> u64
 }
 
 // The gate with control c and target t as an entry; 0 where an end is past the last place.
+// Kept: each caller knows that its ends are places, and would only have to open an option.
 pub fn entry_of(c: usize, t: usize) -> u16
     ensures gate { c < 64 → t < 64 → result ≡ entry (c, t) }
     ensures past_control { 64 ≤ c → result ≡ 0 }

@@ -66,6 +66,7 @@ impl Block {
 }
 
 // Whether a and b are two of n wires.
+// Kept: two wires are two numbers, as in the calls that are given them.
 fn check_wires(n: usize, a: usize, b: usize) -> Result<(), WireFault>
     ensures { result ≡ answered (wire_fault n a b) tt }
 {

@@ -32,6 +32,7 @@ impl WireFault {
     }
 }
 
+// Kept: clauses say what is written, and thiserror's derive promises nothing of its text.
 impl fmt::Display for WireFault {
     ghost output = { λ f. Some (wire_text f) };
 
@@ -75,6 +76,7 @@ impl PlanFault {
     }
 }
 
+// Kept: as for `WireFault`.
 impl fmt::Display for PlanFault {
     ghost output = { λ f. Some (plan_text f) };
 

@@ -85,6 +85,7 @@ pub fn plan_on<M: Machine>(
 }
 
 // The plan as lists: for the words, dual words and places of n wires, with room for the wanted sets and their duals.
+// Kept: the room is arrays of the caller's, since a flush may ask for no memory.
 fn plan_lists(
     adj: &[u64],
     words: &[u64],

@@ -51,6 +51,7 @@ pub enum Reply {
     },
 }
 
+// Kept: as for `Refusal`.
 impl fmt::Display for Reply {
     ghost output = { λ r. Some (reply_text r) };
 

@@ -13,7 +13,8 @@ use session::store::Session;
 use session_fault::SessionFault;
 
 // Makes the call that the order asks for, if its slot allows one, and answers what came of it.
-// Kept: session, machine, slots and buffer come apart, here and in `run`, since each call borrows only some of them.
+// Kept: session, machine, slots and buffer come apart, here and in `run`, since each call borrows only some of them. Each order
+// has its own arguments and call, so this is a match and no table of closures.
 pub fn act<M: Machine>(
     session: &mut Session,
     machine: &mut M,

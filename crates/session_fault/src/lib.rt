@@ -69,6 +69,7 @@ impl SessionFault {
     }
 }
 
+// Kept: thiserror's derive writes `From` and `Display` with no contract, and here clauses say what each gives.
 impl From<MachineFault> for SessionFault {
     ghost from_gives = { λ e r. r ≡ OfMachine e };
 

@@ -9,6 +9,7 @@ use replies::reply::Reply;
 use std::alloc::Global;
 
 // Obeys a command on what was set up; `file` is what the file that a command names holds.
+// Kept: each command has its own arguments and reply, so a table of closures would have to give them one shape.
 pub fn obey(
     setup: &mut Setup,
     heap: Global,
