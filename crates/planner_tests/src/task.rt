@@ -7,6 +7,7 @@ use replaying::words::{add, exchange};
 use std::test::*;
 
 // The block that does nothing.
+// Kept: a trait for what `Block` and `Places` are made by would be longer than this and the next.
 pub(crate) fn empty_block(wires: usize) -> Result<Block, Fail> {
     Ok(Block::new(wires).ok_or("no block of that size")?)
 }
