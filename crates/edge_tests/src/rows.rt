@@ -14,7 +14,7 @@ use tape::store::TapeMachine;
 pub(crate) const SPENT: MachineFault = MachineFault::AllowanceExceeded { asked: 1, left: 0 };
 
 // A table machine on a row.
-// Kept: shared with the other tests, its contract would have to name the machine's private fields.
+// Kept: the other tests have one, too; shared, it would need a contract that is longer than its body.
 pub(crate) fn table(places: usize) -> Result<TableMachine<GridChip>, Fail> {
     Ok(TableMachine::new(GridChip::new(1, places)?))
 }
@@ -29,6 +29,7 @@ pub(crate) fn tape(
 }
 
 // A tape machine on a grid.
+// Kept: the other tests have one, too; shared, it would need a contract that is longer than its body.
 pub(crate) fn tape_on(
     heap: Global,
     chip: GridChip,
