@@ -6,6 +6,7 @@ use replaying::words::add;
 use std::alloc::{AllocError, Global};
 
 // A block of CX calls between random wires, and a plain copy of its words.
+// Kept: the planner's tests have one, too; shared, its calls would need contracts that are longer than their bodies.
 #[derive(Drop)]
 pub(crate) struct Task {
     block: Block,

@@ -2,6 +2,7 @@
 use grid::GridChip;
 use machine::Machine;
 use machine::fault::MachineFault;
+use play::play;
 use replaying::words::first_other_word;
 use std::alloc::Global;
 use std::process::Abort;
@@ -13,7 +14,7 @@ use tape::store::TapeMachine;
 pub(crate) const SPENT: MachineFault = MachineFault::AllowanceExceeded { asked: 1, left: 0 };
 
 // A table machine on a row.
-// Kept: shared with the other tests, its contract would have to name the machine's private fields.
+// Kept: the other tests have one, too; shared, it would need a contract that is longer than its body.
 pub(crate) fn table(places: usize) -> Result<TableMachine<GridChip>, Fail> {
     Ok(TableMachine::new(GridChip::new(1, places)?))
 }
@@ -28,6 +29,7 @@ pub(crate) fn tape(
 }
 
 // A tape machine on a grid.
+// Kept: the other tests have one, too; shared, it would need a contract that is longer than its body.
 pub(crate) fn tape_on(
     heap: Global,
     chip: GridChip,
@@ -36,7 +38,28 @@ pub(crate) fn tape_on(
     Ok(TapeMachine::new(heap, chip, length).map_err(|back| back.fault)?)
 }
 
-// Checks the words at place 0 and the places after it, on a machine of some kind.
-pub(crate) fn check_words<M: Machine>(rt: &impl Abort, machine: &M, words: &[u64], kind: &str) {
-    assert_eq!(rt; first_other_word(machine, words), None, "{kind}");
+// A machine of some kind under test; the kind is said where a check fails.
+#[derive(Drop)]
+pub(crate) struct Trial<'a, R, M> {
+    pub(crate) rt: &'a R,
+    pub(crate) machine: &'a mut M,
+    pub(crate) kind: &'a str,
+}
+
+impl<'a, R: Abort, M: Machine> Trial<'a, R, M> {
+    pub(crate) fn new(rt: &'a R, kind: &'a str, machine: &'a mut M) -> Trial<'a, R, M> {
+        Trial { rt, machine, kind }
+    }
+
+    // Checks the words at place 0 and the places after it.
+    pub(crate) fn check_words(&self, words: &[u64]) {
+        let kind = self.kind;
+        assert_eq!(self.rt; first_other_word(self.machine, words), None, "{kind}");
+    }
+
+    // Checks what playing some gates is answered.
+    pub(crate) fn check_play(&mut self, gates: &[u16], answer: Result<(), MachineFault>) {
+        let kind = self.kind;
+        assert_eq!(self.rt; play(self.machine, gates), answer, "{kind}");
+    }
 }

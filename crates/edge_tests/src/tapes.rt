@@ -1,5 +1,5 @@
 // Tapes: their lengths, their entries, and the words they give.
-use crate::rows::{SPENT, check_words, tape, tape_on};
+use crate::rows::{SPENT, Trial, tape, tape_on};
 use chip::Chip;
 use grid::GridChip;
 use machine::Machine;
@@ -17,7 +17,7 @@ fn a_tape_of_no_entries_takes_no_gate(rt: HostRuntime) -> Result<(), Fail> {
     assert_eq!(rt; machine.allowance(), 0);
     assert_eq!(rt; machine.cnot(0, 1), Err(SPENT));
     assert!(rt; machine.entries().is_empty());
-    check_words(&rt, &machine, &[1, 2], "tape");
+    Trial::new(&rt, "tape", &mut machine).check_words(&[1, 2]);
     Ok(())
 }
 
@@ -29,7 +29,7 @@ fn a_tape_of_two_entries_takes_two_gates(rt: HostRuntime) -> Result<(), Fail> {
     assert_eq!(rt; machine.cnot(0, 1), Err(SPENT));
     assert_eq!(rt; machine.allowance(), 0);
     assert_eq!(rt; machine.entries(), &[1, 64][..]);
-    check_words(&rt, &machine, &[2, 3], "tape");
+    Trial::new(&rt, "tape", &mut machine).check_words(&[2, 3]);
     Ok(())
 }
 
@@ -43,7 +43,7 @@ fn the_longest_tape_can_be_filled(rt: HostRuntime) -> Result<(), Fail> {
     assert_eq!(rt; machine.entries().len(), 8192);
     assert_eq!(rt; machine.cnot(0, 1), Err(SPENT));
     // Three such pairs of gates give the fresh words back, and 4096 is one above a multiple of three.
-    check_words(&rt, &machine, &[2, 3], "tape");
+    Trial::new(&rt, "tape", &mut machine).check_words(&[2, 3]);
     Ok(())
 }
 

@@ -28,7 +28,7 @@ pub(crate) fn line(heap: Global, places: u8) -> Result<TableMachine<MappedChip>,
 // Three or more places round a ring.
 pub(crate) fn ring(heap: Global, places: u8) -> Result<TableMachine<MappedChip>, Fail> {
     let mut draft = row(heap, places)?;
-    draft.join(places.wrapping_sub(1), 0)?;
+    draft.join(places.checked_sub(1).ok_or("no places")?, 0)?;
     machine(heap, places, &draft)
 }
 

@@ -4,33 +4,43 @@ use crate::trial::{Trial, check_blocks};
 use chip::Chip;
 use grid::GridChip;
 use machine::Machine;
+use map::MappedChip;
 use random::Random;
 use std::process::Abort;
 use std::test::*;
 use table::store::TableMachine;
 
-#[test]
-fn lines(rt: HostRuntime) -> Result<(), Fail> {
-    for (places, seed) in [(1, 11), (2, 12), (3, 13), (5, 14), (10, 15)] {
-        check_blocks(&rt, "line", &line(rt.alloc(), places)?, seed, 200)?;
+// Random blocks on chips of one form, each given as its places and a seed.
+fn check_family<F: Fn(u8) -> Result<TableMachine<MappedChip>, Fail>>(
+    rt: &impl Abort,
+    name: &str,
+    machine_of: F,
+    cases: &[(u8, u64)],
+) -> Result<(), Fail>
+    requires { F.IsAlwaysCallable machine_of }
+{
+    for &(places, seed) in cases {
+        check_blocks(rt, name, &machine_of(places)?, seed, 200)?;
     }
     Ok(())
+}
+
+#[test]
+fn lines(rt: HostRuntime) -> Result<(), Fail> {
+    let cases = [(1, 11), (2, 12), (3, 13), (5, 14), (10, 15)];
+    check_family(&rt, "line", |places| line(rt.alloc(), places), &cases)
 }
 
 #[test]
 fn rings(rt: HostRuntime) -> Result<(), Fail> {
-    for (places, seed) in [(3, 21), (4, 22), (5, 23), (8, 24), (12, 25)] {
-        check_blocks(&rt, "ring", &ring(rt.alloc(), places)?, seed, 200)?;
-    }
-    Ok(())
+    let cases = [(3, 21), (4, 22), (5, 23), (8, 24), (12, 25)];
+    check_family(&rt, "ring", |places| ring(rt.alloc(), places), &cases)
 }
 
 #[test]
 fn stars(rt: HostRuntime) -> Result<(), Fail> {
-    for (places, seed) in [(3, 31), (4, 32), (6, 33), (9, 34), (12, 35)] {
-        check_blocks(&rt, "star", &star(rt.alloc(), places)?, seed, 200)?;
-    }
-    Ok(())
+    let cases = [(3, 31), (4, 32), (6, 33), (9, 34), (12, 35)];
+    check_family(&rt, "star", |places| star(rt.alloc(), places), &cases)
 }
 
 #[test]

@@ -16,11 +16,11 @@ fn check_short<M: Machine>(rt: &impl Abort, machine: &M) -> Result<(), Fail> {
     let trial = Trial::new(rt, "line", machine, 0);
     let case = trial.case;
     let mut block = empty_block(n)?;
-    block.cx(n.wrapping_sub(1), 0)?;
+    block.cx(n.saturating_sub(1), 0)?;
     let places = own_places(n)?;
     let needed = most_gates(n).ok_or("too wide")?;
     let mut out = [UNTOUCHED; BUFFER];
-    let short = out.get_mut(0..needed.wrapping_sub(1)).ok_or("no room")?;
+    let short = out.get_mut(..needed.saturating_sub(1)).ok_or("no room")?;
     let refused = plan_for(machine, &block, &places, short).err();
     assert_eq!(rt;
         refused,
@@ -28,7 +28,7 @@ fn check_short<M: Machine>(rt: &impl Abort, machine: &M) -> Result<(), Fail> {
         "{case}"
     );
     trial.check_untouched(&out);
-    let enough = out.get_mut(0..needed).ok_or("no room")?;
+    let enough = out.get_mut(..needed).ok_or("no room")?;
     assert!(rt;
         plan_for(machine, &block, &places, enough).is_ok(),
         "{case}"

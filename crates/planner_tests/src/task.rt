@@ -7,6 +7,7 @@ use replaying::words::{add, exchange};
 use std::test::*;
 
 // The block that does nothing.
+// Kept: a trait for what `Block` and `Places` are made by would be longer than this and the next.
 pub(crate) fn empty_block(wires: usize) -> Result<Block, Fail> {
     Ok(Block::new(wires).ok_or("no block of that size")?)
 }
@@ -17,6 +18,7 @@ pub(crate) fn own_places(wires: usize) -> Result<Places, Fail> {
 }
 
 // A block, and a plain copy of its words.
+// Kept: the benchmark has one, too; shared, its calls would need contracts that are longer than their bodies.
 #[derive(Drop)]
 pub(crate) struct Task {
     pub(crate) block: Block,
@@ -67,6 +69,7 @@ pub(crate) fn random_task<M: Machine>(machine: &M, random: &mut Random) -> Resul
 }
 
 // One random call.
+// Kept: the machine and the random numbers are of two owners, and three short functions are given both.
 fn call<M: Machine>(
     machine: &M,
     random: &mut Random,

@@ -117,12 +117,11 @@ impl<'a, R: Abort, M: Machine> Trial<'a, R, M> {
     fn is_reachable(&self, words: &[u64], at: &[usize]) -> Result<bool, Fail> {
         let service: [bool; 256] = array::from_fn(|k| self.machine.serves(k) == Ok(true));
         let islands = islands(self.machine, &service);
-        for word in words {
-            if !on_one_island(places_of(*word, at).ok_or("no such wire")?, &islands) {
-                return Ok(false);
-            }
-        }
-        Ok(true)
+        let reachable = words.iter().try_fold(true, |reachable, word| {
+            let set = places_of(*word, at)?;
+            Some(reachable && on_one_island(set, &islands))
+        });
+        Ok(reachable.ok_or("no such wire")?)
     }
 
     // Checks a plan: its length, its gates, its placement, and that nothing else is written.

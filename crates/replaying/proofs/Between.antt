@@ -1,5 +1,5 @@
 -- A search among the couplers of a machine.
-use Rattle.std.proofs.Common.{◌≡◌, ◌<◌, ◌≤◌, ℕ, Bool, List, length, true, false, refl, IsTrue, ◌↔◌, MatchBool, get_or, subst, ap, ◌∙◌, ◌+◌, MatchOption, None, Some, Option, arith}
+use Rattle.std.proofs.Common.{◌≡◌, ◌<◌, ◌≤◌, ℕ, Bool, List, length, get_or, subst, ap, ◌∙◌, ◌+◌, MatchOption, None, Some, Option, arith}
 use Rattle.std.specs.List.{AllWithin, HoldsAt, enumerate_from}
 use Rattle.std.proofs.lemmas.List.FromFn.{length-enumerate_from, get_or-enumerate_from}
 use Rattle.chip.specs.Layout.{Layout}
@@ -31,20 +31,3 @@ first_numbered ws (Some q) P (low, holds, before) =
     let len = length-enumerate_from 0 ws in
     let h : q < length ws = omega arith in
     (h, subst (λ (e : ℕ × ℕ). P e.0 e.1 → ⊥) (numbered ws q h) (holds (0, 0)))
-
--- whether all numbered items are as asked, of which there are n
-pub all_numbered : (ws : List ℕ) (n : ℕ) (r : Bool) (P : ℕ → ℕ → Type 0) → length ws ≡ n
-    → MatchBool r (AllWithin (λ (e : ℕ × ℕ). P e.0 e.1) (enumerate_from 0 ws) 0 (length (enumerate_from 0 ws)))
-    ((k : ℕ) × (k < length (enumerate_from 0 ws)) × HoldsAt (λ (e : ℕ × ℕ). P e.0 e.1 → ⊥) (enumerate_from 0 ws) k)
-    → IsTrue r ↔ ((q : ℕ) → q < n → P q (get_or ws q 0))
-all_numbered ws n true P wide all = (
-  λ _ q h.
-      let len = length-enumerate_from 0 ws in
-      let less : q < length ws = omega arith in
-      subst (λ (e : ℕ × ℕ). P e.0 e.1) (numbered ws q less) (all q (0, 0) (omega arith) (omega arith)),
-  λ _. refl,
-)
-all_numbered ws n false P wide (q, less, holds) =
-    let len = length-enumerate_from 0 ws in
-    let h : q < length ws = omega arith in
-    (λ t. let no : ◌≡◌ {A = ℕ} 0 1 = cc in absurd (omega arith), λ f. absurd (subst (λ (e : ℕ × ℕ). P e.0 e.1 → ⊥) (numbered ws q h) (holds (0, 0)) (f q (omega arith))))

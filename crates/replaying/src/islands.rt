@@ -39,6 +39,7 @@ fn renamed(name: usize, other: usize, at: usize) -> usize
 }
 
 // The places of the wires in a word, if each has one of 64.
+// Kept: a wire of the word with no place is refused, so the wires are gone through and not the places.
 pub fn places_of(word: u64, at: &[usize]) -> Option<u64>
     ensures there { IsSome result ↔ ((w : ℕ) → w < 64 → bit word w ≡ 1 → HasPlace at.now w) }
     ensures places { IfSome result (λ places. places ≡ places_below at.now word 64) }

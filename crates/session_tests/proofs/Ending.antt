@@ -28,15 +28,15 @@ checks x y z a b c = cond a (cond b (cond c None (Some z)) (Some y)) (Some x)
 
 passes_on : (x y z : SessionFault) (a b c d : Bool) → (c ≡ true → d ≡ true) → checks x y z a b c ≡ None → checks x y z a b d ≡ None
 passes_on x y z true true true d f e = ap (λ (v : Bool). cond v None (Some z)) (f refl)
-passes_on x y z true true false d f e = let no : ◌≡◌ {A = ℕ} 0 1 = cc in absurd (omega arith)
-passes_on x y z true false c d f e = let no : ◌≡◌ {A = ℕ} 0 1 = cc in absurd (omega arith)
-passes_on x y z false b c d f e = let no : ◌≡◌ {A = ℕ} 0 1 = cc in absurd (omega arith)
+passes_on x y z true true false d f e = absurd cc
+passes_on x y z true false c d f e = absurd cc
+passes_on x y z false b c d f e = absurd cc
 
 first_and_last : (x y z : SessionFault) (a b c : Bool) → checks x y z a b c ≡ None → (a ≡ true) × (c ≡ true)
 first_and_last x y z true true true e = (refl, refl)
-first_and_last x y z true true false e = let no : ◌≡◌ {A = ℕ} 0 1 = cc in absurd (omega arith)
-first_and_last x y z true false c e = let no : ◌≡◌ {A = ℕ} 0 1 = cc in absurd (omega arith)
-first_and_last x y z false b c e = let no : ◌≡◌ {A = ℕ} 0 1 = cc in absurd (omega arith)
+first_and_last x y z true true false e = absurd cc
+first_and_last x y z true false c e = absurd cc
+first_and_last x y z false b c e = absurd cc
 
 all_three : (x y z : SessionFault) (a b c : Bool) → a ≡ true → b ≡ true → c ≡ true → checks x y z a b c ≡ None
 all_three x y z a b c e f g =
@@ -50,14 +50,14 @@ stays_out (r ∷ rs) (suc k) zero h = h
 stays_out (r ∷ rs) (suc k) (suc j) h = stays_out rs k j h
 
 goes_out : (rs : List CouplerRecord) (k : ℕ) → is_in (get_or rs k WrittenOff) ≡ true → is_out (get_or (set rs k Out) k WrittenOff) ≡ true
-goes_out [] k h = let no : ◌≡◌ {A = ℕ} 0 1 = cc in absurd (omega arith)
+goes_out [] k h = absurd cc
 goes_out (r ∷ rs) zero h = refl
 goes_out (r ∷ rs) (suc k) h = goes_out rs k h
 
 in_or_out : (r : CouplerRecord) → is_in r ≡ true → is_out r ≡ true → ⊥
-in_or_out In i o = let no : ◌≡◌ {A = ℕ} 0 1 = cc in omega arith
-in_or_out Out i o = let no : ◌≡◌ {A = ℕ} 0 1 = cc in omega arith
-in_or_out WrittenOff i o = let no : ◌≡◌ {A = ℕ} 0 1 = cc in omega arith
+in_or_out In i o = cc
+in_or_out Out i o = cc
+in_or_out WrittenOff i o = cc
 
 kept_keeps : (f : Option SessionFault) (s x t : State) → t ≡ kept f x s → Stays s x → Stays s t
 kept_keeps None s x t e h p ends = ap (λ (y : State). end_fault y p) e ∙ h p ends
@@ -117,11 +117,11 @@ back_or (Err e) d = e.1
 
 no_fault : (f : Option SessionFault) (a b : Pass) → Ok a ≡ answered f b → (f ≡ None) × (a ≡ b)
 no_fault None a b e = (refl, ap (λ (r : Result Pass SessionFault). pass_or r b) e)
-no_fault (Some f) a b e = let no : ◌≡◌ {A = ℕ} 0 1 = cc in absurd (omega arith)
+no_fault (Some f) a b e = absurd cc
 
 kept_new : (f : Option SessionFault) (s x t : State) → f ≡ None → t ≡ kept f x s → t ≡ x
 kept_new None s x t n e = e
-kept_new (Some f) s x t n e = let no : ◌≡◌ {A = ℕ} 0 1 = cc in absurd (omega arith)
+kept_new (Some f) s x t n e = absurd cc
 
 -- a pass just handed out can be ended
 pub take_ends : (s t : State) (k : ℕ) (p : Pass) → TakeOut s k (Ok p) t → Ends t p
@@ -156,7 +156,7 @@ alike s t u v k p q c d same =
     (no_fault (take_fault s k) p (made s.session.number) c.answer).1 ∙ ap made same ∙ sym (no_fault (take_fault u k) q (made u.session.number) d.answer).1
 
 came_back : (f : Option SessionFault) (p q : Pass) (x : SessionFault) (s y t : State) → Err (x, q) ≡ returned f p → t ≡ kept f y s → (q ≡ p) × (t ≡ s)
-came_back None p q x s y t e l = let no : ◌≡◌ {A = ℕ} 0 1 = cc in absurd (omega arith)
+came_back None p q x s y t e l = absurd cc
 came_back (Some f) p q x s y t e l = (ap (λ (r : Result (Unit {0}) (SessionFault × Pass)). back_or r p) e, l)
 
 -- a pass that is turned down comes back, and nothing is changed
@@ -167,8 +167,8 @@ pub write_down : (s t : State) (p q : Pass) (x : SessionFault) → WriteOff s p 
 write_down s t p q x c = came_back (end_fault s p) p q x s _ t c.answer c.leaves
 
 ended : (f : Option SessionFault) (p : Pass) (e : SessionFault × Pass) → f ≡ None → Err e ≡ returned f p → ⊥
-ended None p e n a = let no : ◌≡◌ {A = ℕ} 0 1 = cc in omega arith
-ended (Some f) p e n a = let no : ◌≡◌ {A = ℕ} 0 1 = cc in omega arith
+ended None p e n a = cc
+ended (Some f) p e n a = cc
 
 -- a pass that can be ended is not turned down
 pub give_ends : (s t : State) (p : Pass) (e : SessionFault × Pass) → Ends s p → GiveBack s p (Err e) t → ⊥

@@ -50,6 +50,7 @@ fn passes_of_sessions_with_one_number_are_alike(rt: HostRuntime) -> Result<(), F
 }
 
 // Offers a pass where it is turned down and changes nothing, and hands it on.
+// Kept: the session and the machine are no pair in one struct, since one session meets two machines here.
 fn offer<M: Machine>(
     rt: &impl Abort,
     session: &mut Session,

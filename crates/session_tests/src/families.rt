@@ -1,6 +1,6 @@
 // Random runs on some grids, on machines of both kinds.
 use crate::machines::{table, tape};
-use crate::nest::{Run, nest};
+use crate::nest::Run;
 use chip::Chip;
 use machine::Machine;
 use session::store::Session;
@@ -9,14 +9,19 @@ use std::process::Abort;
 use std::test::*;
 
 // A random run of some hundred calls on a new machine.
-fn run<M: Machine>(rt: &impl Abort, heap: Global, machine: &mut M, seed: u64) -> Result<Run, Fail> {
+fn run<'a, R: Abort, M: Machine>(
+    rt: &'a R,
+    heap: Global,
+    machine: &mut M,
+    seed: u64,
+) -> Result<Run<'a, R>, Fail> {
     let mut session = Session::open(heap, 7, machine)?;
-    let mut run = Run::new(heap, seed, machine.couplers())?;
+    let mut run = Run::new(rt, heap, seed, machine.couplers())?;
     // half of the couplers and one more out at once
-    let depth = (machine.couplers() / 2).wrapping_add(1);
+    let depth = machine.couplers() / 2 + 1;
     for number in 0..4 {
         run.progress.part = number;
-        nest(rt, &mut session, machine, &mut run, depth)?;
+        run.nest(&mut session, machine, depth)?;
     }
     Ok(run)
 }

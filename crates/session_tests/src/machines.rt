@@ -10,12 +10,13 @@ use table::store::TableMachine;
 use tape::store::TapeMachine;
 
 // A table machine on a grid.
-// Kept: shared with the other tests, its contract would have to name the machine's private fields.
+// Kept: the other tests have one, too; shared, it would need a contract that is longer than its body.
 pub(crate) fn table(rows: usize, columns: usize) -> Result<TableMachine<GridChip>, Fail> {
     Ok(TableMachine::new(GridChip::new(rows, columns)?))
 }
 
 // A tape machine on a grid.
+// Kept: the other tests have one, too; shared, it would need a contract that is longer than its body.
 pub(crate) fn tape(
     heap: Global,
     rows: usize,

@@ -118,12 +118,12 @@ impl Sheet {
         let islands = self.islands(machine);
         // no word has a wire that the session does not have
         let places: [usize; 64] = array::from_fn(|w| session.place(w).unwrap_or(w));
-        for word in self.block.iter().take(session.wires()) {
-            if !on_one_island(places_of(*word, &places).ok_or("no such wire")?, &islands) {
-                return Ok(false);
-            }
-        }
-        Ok(true)
+        let mut words = self.block.iter().take(session.wires());
+        let reachable = words.try_fold(true, |reachable, word| {
+            let set = places_of(*word, &places)?;
+            Some(reachable && on_one_island(set, &islands))
+        });
+        Ok(reachable.ok_or("no such wire")?)
     }
 
     // Checks that each wire's place carries what the sheet says, and that the couplers serve as the sheet says.

@@ -1,4 +1,4 @@
-use Rattle.std.proofs.Common.{rules, refl, ◌≡◌, ◌∙◌, ap, arith, below_more}
+use Rattle.std.proofs.Common.{rules, refl, ◌≡◌, ◌∙◌, arith, below_more}
 use Rattle.parity.specs.Sets.{bit}
 use Rattle.replaying.specs.Islands.{places_below}
 use Rattle.replaying.proofs.Placed.{placed, passed}
@@ -24,8 +24,3 @@ loop-w-preserved c =
         below_more _ _ c.loop-w.invariant.1 (λ h. search rules),
       )
     ]
-
-pub returns-clause-places : goal.returns-clause-places
-returns-clause-places c =
-    let last : c.loop-w.w ≡ 64 = omega arith in
-    c.loop-w.invariant.0 ∙ ap (places_below c.args.at.now c.args.word) last

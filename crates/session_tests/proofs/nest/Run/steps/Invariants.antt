@@ -1,6 +1,6 @@
 use Rattle.session.specs.Views.{state}
 use Rattle.session_tests.specs.Passes.{Keeps}
-use Rattle.session_tests.proofs.nest.steps.Given as goal
+use Rattle.session_tests.proofs.nest.Run.steps.Given as goal
 
 abbrev pub invariant-loop-number : goal.invariant-loop-number
 invariant-loop-number g l =

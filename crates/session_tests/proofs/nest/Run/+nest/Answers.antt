@@ -1,5 +1,5 @@
 use Rattle.session_tests.proofs.Ending.{take_keeps, take_ends, outage_keeps, keeps_then}
-use Rattle.session_tests.proofs.nest.+nest.Goals as goal
+use Rattle.session_tests.proofs.nest.Run.+nest.Goals as goal
 
 pub finish-requires : goal.finish-requires
 finish-requires g t c = c.nest-inside.ensures.stays c.in-Ok.pass (take_ends _ _ _ c.in-Ok.pass c.in-Ok.ensures)
