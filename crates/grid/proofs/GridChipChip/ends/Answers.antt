@@ -4,14 +4,6 @@ use Rattle.grid.specs.Grid.{rightward, grid_couplers}
 use Rattle.grid.specs.Couplers.{rightward_more, downward_more, length_couplers, ends_answered}
 use Rattle.grid.proofs.GridChipChip.ends.Goals as goal
 
-pub overflow_mul-rightward : goal.overflow_mul-rightward
-overflow_mul-rightward c = let s = c.args.self.now in omega (arith, rightward_more s.rows s.columns s.some_column)
-
-pub overflow_add-result-else-k-rightward : goal.overflow_add-result-else-k-rightward
-overflow_add-result-else-k-rightward c =
-    let s = c.args.self.now in
-    omega (arith, length_couplers s.rows s.columns, rightward_more s.rows s.columns s.some_column, downward_more s.rows s.columns s.some_row)
-
 pub returns-then-k-rightward : goal.returns-then-k-rightward
 returns-then-k-rightward c =
     let s = c.args.self.now in
