@@ -1,34 +1,41 @@
 -- Words and dual words: the calls on a block keep them paired.
-use Rattle.std.proofs.Common.{◌≡◌, ℕ, ◌^◌, ◌<◌, ◌≤◌, Bool, true, false, cond, ◌&&◌, eqb, ltb, ◌≢◌, ◌⊎◌, List, length, get_or, take, set, Some, None, sym, refl, ap, ◌∙◌, subst, ap₂, inl, inr, arith, get_or-take}
+use Rattle.std.proofs.Common.{◌≡◌, ℕ, ◌^◌, ◌<◌, ◌≤◌, Bool, true, false, cond, ◌&&◌, eqb, ltb, ◌≢◌, ◌⊎◌, List, length, get_or, set, Some, None, sym, refl, ap, ◌∙◌, subst, ap₂, inl, inr, arith}
 use lib.Bits.{bit_xor, xor_lt}
 use lib.Pow.{pow-lt}
-use lib.Seq.{take-set-lt}
 use Rattle.std.proofs.lemmas.List.{get_or-set_same, get_or-set_other, length-set}
 use Rattle.std.proofs.lemmas.Bool.{cases_eq, ltb-true, eqb-false}
-use Rattle.parity.specs.Words.{fresh, cnot}
+use Rattle.parity.specs.Words.{fresh}
 use Rattle.parity.specs.Pairing.{dot}
 use Rattle.parity.proofs.Bits.{bit_pow_same, bit_pow_other}
 use Rattle.parity.proofs.Pairing.{dot_xor, dot_comm, dot_pow}
 use Rattle.parity.proofs.Words.{get_d_fresh}
 use Rattle.planner.specs.declared.fault.WireFault.TheVariants.{NoSuchWire, SameWire}
+use Rattle.rounds.specs.Duals.{Paired}
+use Rattle.planner.specs.declared.store.Block.{Block}
 use Rattle.planner.specs.Blocks.{wire_fault, traded}
+use Rattle.planner.specs.Views.{words_of, duals_of}
 
 -- what a block's words and dual words keep
 pub record Dual (n : ℕ) (xs ys : List ℕ) : Type 0 where
   pub words_below : (w : ℕ) → w < n → get_or xs w 0 < 2 ^ n
   pub duals_below : (w : ℕ) → w < n → get_or ys w 0 < 2 ^ n
-  pub own : (w : ℕ) → w < n → dot (get_or xs w 0) (get_or ys w 0) ≡ 1
-  pub other : (w v : ℕ) → (w < n) × (v < n) × (w ≢ v) → dot (get_or xs w 0) (get_or ys v 0) ≡ 0
+  pub paired : Paired n xs ys
 
-pub fresh_dual : (n : ℕ) → n ≤ 64 → Dual n (fresh 64) (fresh 64)
-fresh_dual n h =
-    let at : (w : ℕ) → w < n → get_or (fresh 64) w 0 ≡ 2 ^ w = λ w l. get_d_fresh 64 w (omega arith) in
-    let below : (w : ℕ) → w < n → get_or (fresh 64) w 0 < 2 ^ n = λ w l. subst (λ (x : ℕ). x < 2 ^ n) (sym (at w l)) (pow-lt l) in
+-- those of a block
+pub block_dual : (b : Block) → Dual (length (words_of b)) (words_of b) (duals_of b)
+block_dual b = record { words_below = b.words_below; duals_below = b.duals_below; paired = b.paired }
+
+pub fresh_dual : (n : ℕ) → Dual n (fresh n) (fresh n)
+fresh_dual n =
+    let at : (w : ℕ) → w < n → get_or (fresh n) w 0 ≡ 2 ^ w = λ w l. get_d_fresh n w l in
+    let below : (w : ℕ) → w < n → get_or (fresh n) w 0 < 2 ^ n = λ w l. subst (λ (x : ℕ). x < 2 ^ n) (sym (at w l)) (pow-lt l) in
     record {
       words_below = below;
       duals_below = below;
-      own = λ w l. ap₂ dot (at w l) (at w l) ∙ dot_pow w (2 ^ w) ∙ bit_pow_same w;
-      other = λ w v t. ap₂ dot (at w t.0) (at v t.1) ∙ dot_pow w (2 ^ v) ∙ bit_pow_other v w t.2;
+      paired = record {
+        own = λ w l. ap₂ dot (at w l) (at w l) ∙ dot_pow w (2 ^ w) ∙ bit_pow_same w;
+        other = λ w v hw hv wv. ap₂ dot (at w hw) (at v hv) ∙ dot_pow w (2 ^ v) ∙ bit_pow_other v w wv;
+      };
     }
 
 dot_right : (x y z : ℕ) → dot x (bit_xor y z) ≡ bit_xor (dot x y) (dot x z)
@@ -73,10 +80,10 @@ module _ (n : ℕ) (xs ys : List ℕ) (a b : ℕ) (d : Dual n xs ys) (lx : n ≤
           → dot (get_or (set xs b x) w 0) (get_or (set ys a y) w 0) ≡ 1
       go (inl p) (inl q) = absurd (ne (sym q.0 ∙ p.0))
       go (inl p) (inr q) =
-          ap₂ dot p.1 (q.1 ∙ ap (λ (m : ℕ). get_or ys m 0) p.0) ∙ word_with b bn ∙ ap₂ bit_xor (d.other a b (an, bn, ne)) (d.own b bn)
+          ap₂ dot p.1 (q.1 ∙ ap (λ (m : ℕ). get_or ys m 0) p.0) ∙ word_with b bn ∙ ap₂ bit_xor (d.paired.other a b an bn ne) (d.paired.own b bn)
       go (inr p) (inl q) =
-          ap₂ dot (p.1 ∙ ap (λ (m : ℕ). get_or xs m 0) q.0) q.1 ∙ with_dual (get_or xs a 0) ∙ ap₂ bit_xor (d.other a b (an, bn, ne)) (d.own a an)
-      go (inr p) (inr q) = ap₂ dot p.1 q.1 ∙ d.own w h
+          ap₂ dot (p.1 ∙ ap (λ (m : ℕ). get_or xs m 0) q.0) q.1 ∙ with_dual (get_or xs a 0) ∙ ap₂ bit_xor (d.paired.other a b an bn ne) (d.paired.own a an)
+      go (inr p) (inr q) = ap₂ dot p.1 q.1 ∙ d.paired.own w h
 
   other' : (w v : ℕ) → (w < n) × (v < n) × (w ≢ v) → dot (get_or (set xs b x) w 0) (get_or (set ys a y) v 0) ≡ 0
   other' w v t = go (at_word w) (at_dual v)
@@ -86,14 +93,14 @@ module _ (n : ℕ) (xs ys : List ℕ) (a b : ℕ) (d : Dual n xs ys) (lx : n ≤
           → dot (get_or (set xs b x) w 0) (get_or (set ys a y) v 0) ≡ 0
       go (inl p) (inl q) =
           ap₂ dot p.1 q.1 ∙ with_dual x
-          ∙ ap₂ bit_xor (word_with b bn ∙ ap₂ bit_xor (d.other a b (an, bn, ne)) (d.own b bn)) (word_with a an ∙ ap₂ bit_xor (d.own a an) (d.other b a (bn, an, ba)))
+          ∙ ap₂ bit_xor (word_with b bn ∙ ap₂ bit_xor (d.paired.other a b an bn ne) (d.paired.own b bn)) (word_with a an ∙ ap₂ bit_xor (d.paired.own a an) (d.paired.other b a bn an ba))
       go (inl p) (inr q) =
           let bv : b ≢ v = λ e. t.2 (p.0 ∙ e) in
-          ap₂ dot p.1 q.1 ∙ word_with v t.1 ∙ ap₂ bit_xor (d.other a v (an, t.1, λ e. q.0 (sym e))) (d.other b v (bn, t.1, bv))
+          ap₂ dot p.1 q.1 ∙ word_with v t.1 ∙ ap₂ bit_xor (d.paired.other a v an t.1 (λ e. q.0 (sym e))) (d.paired.other b v bn t.1 bv)
       go (inr p) (inl q) =
           let wa : w ≢ a = λ e. t.2 (e ∙ sym q.0) in
-          ap₂ dot p.1 q.1 ∙ with_dual (get_or xs w 0) ∙ ap₂ bit_xor (d.other w b (t.0, bn, p.0)) (d.other w a (t.0, an, wa))
-      go (inr p) (inr q) = ap₂ dot p.1 q.1 ∙ d.other w v t
+          ap₂ dot p.1 q.1 ∙ with_dual (get_or xs w 0) ∙ ap₂ bit_xor (d.paired.other w b t.0 bn p.0) (d.paired.other w a t.0 an wa)
+      go (inr p) (inr q) = ap₂ dot p.1 q.1 ∙ d.paired.other w v t.0 t.1 t.2
 
   pub cx_dual : Dual n (set xs b x) (set ys a y)
   cx_dual = record {
@@ -105,8 +112,7 @@ module _ (n : ℕ) (xs ys : List ℕ) (a b : ℕ) (d : Dual n xs ys) (lx : n ≤
       | inl p ↦ subst (λ (z : ℕ). z < 2 ^ n) (sym p.1) (xor_lt n (get_or ys b 0) (get_or ys a 0) (d.duals_below b bn) (d.duals_below a an))
       | inr p ↦ subst (λ (z : ℕ). z < 2 ^ n) (sym p.1) (d.duals_below w h)
     ];
-    own = own';
-    other = other';
+    paired = record { own = own'; other = λ w v hw hv wv. other' w v (hw, hv, wv) };
   }
 
 -- s is the wire whose word w has, when the words of a and b are traded
@@ -158,10 +164,12 @@ traded_dual n xs ys a b d lx ly an bn ne =
     record {
       words_below = λ w h. subst (λ (z : ℕ). z < 2 ^ n) (sym (in_x w)) (d.words_below (trader a b w).0 (low w h));
       duals_below = λ w h. subst (λ (z : ℕ). z < 2 ^ n) (sym (in_y w)) (d.duals_below (trader a b w).0 (low w h));
-      own = λ w h. ap₂ dot (in_x w) (in_y w) ∙ d.own (trader a b w).0 (low w h);
-      other = λ w v t. ap₂ dot (in_x w) (in_y v)
-          ∙ d.other (trader a b w).0 (trader a b v).0
-          (low w t.0, low v t.1, λ e. t.2 (trader_same a b w v (trader a b w).0 (trader a b v).0 ne (trader a b w).1 (trader a b v).1 e));
+      paired = record {
+        own = λ w h. ap₂ dot (in_x w) (in_y w) ∙ d.paired.own (trader a b w).0 (low w h);
+        other = λ w v hw hv wv. ap₂ dot (in_x w) (in_y v)
+            ∙ d.paired.other (trader a b w).0 (trader a b v).0 (low w hw) (low v hv)
+            (λ e. wv (trader_same a b w v (trader a b w).0 (trader a b v).0 ne (trader a b w).1 (trader a b v).1 e));
+      };
     }
 
 pub some_same : {A : Type 0} {x y : A} → Some x ≡ Some y → x ≡ y
@@ -179,15 +187,3 @@ two_wires n a b h = go (ltb a n) (ltb b n) (eqb a b) refl refl refl h
     go true true false ea eb ee z = (ltb-true a n ea, ltb-true b n eb, eqb-false a b ee)
     go true false r ea eb ee z = absurd (some_none NoSuchWire z)
     go false q r ea eb ee z = absurd (some_none NoSuchWire z)
-
--- the first n of the words after each call
-pub cx_words : (n : ℕ) (ws : List ℕ) (a b : ℕ) → a < n → b < n → take n (set ws b (bit_xor (get_or ws a 0) (get_or ws b 0))) ≡ cnot (a, b) (take n ws)
-cx_words n ws a b an bn =
-    take-set-lt n ws b (bit_xor (get_or ws a 0) (get_or ws b 0)) bn
-    ∙ ap₂ (λ (u v : ℕ). set (take n ws) b (bit_xor u v)) (sym (get_or-take n ws a 0 an)) (sym (get_or-take n ws b 0 bn))
-
-pub traded_words : (n : ℕ) (ws : List ℕ) (a b : ℕ) → a < n → b < n → take n (traded a b ws) ≡ traded a b (take n ws)
-traded_words n ws a b an bn =
-    take-set-lt n (set ws a (get_or ws b 0)) b (get_or ws a 0) bn
-    ∙ ap (λ (l : List ℕ). set l b (get_or ws a 0)) (take-set-lt n ws a (get_or ws b 0) an)
-    ∙ ap₂ (λ (u v : ℕ). set (set (take n ws) a u) b v) (sym (get_or-take n ws b 0 bn)) (sym (get_or-take n ws a 0 an))

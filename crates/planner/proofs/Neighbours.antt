@@ -1,8 +1,8 @@
 -- Rows of neighbours, coupler by coupler.
-use Rattle.std.proofs.Common.{◌≡◌, ℕ, zero, suc, ◌+◌, ◌^◌, ◌<◌, ◌≤◌, Bool, true, false, cond, ◌≢◌, ◌⊎◌, ◌↔◌, List, length, get_or, take, set, replicate, Some, None, sym, refl, ap, ◌∙◌, subst, inl, inr, arith, get_or-take}
+use Rattle.std.proofs.Common.{◌≡◌, ℕ, zero, suc, ◌+◌, ◌^◌, ◌<◌, ◌≤◌, Bool, true, false, cond, ◌≢◌, ◌⊎◌, ◌↔◌, List, length, get_or, set, replicate, Some, None, sym, refl, ap, ◌∙◌, subst, inl, inr, arith}
 use lib.Bits.{bit_or}
-use Rattle.std.proofs.lemmas.List.{get_or-set_same, get_or-set_other, get_or_past, length-set, length-take}
-use Rattle.std.proofs.lemmas.Bool.{cases_eq, cases_lt}
+use Rattle.std.proofs.lemmas.List.{get_or-set_same, get_or-set_other, length-set, length-replicate}
+use Rattle.std.proofs.lemmas.Bool.{cases_eq}
 use Rattle.parity.specs.Words.{Gate}
 use Rattle.parity.specs.Sets.{bit}
 use Rattle.parity.proofs.Bits.{zero_one, bit_none, bit_cases, bit_pow_same, place_is}
@@ -72,14 +72,19 @@ pub record ServedBelow (l : Layout) (service : List Bool) (k : ℕ) (g : Gate) :
 
 -- the rows have the neighbours that the first k couplers make
 pub record Rows (l : Layout) (service : List Bool) (rows : List ℕ) (k : ℕ) : Type 0 where
-  pub wide : length rows ≡ 64
+  pub wide : length rows ≡ l.places
   pub neighbours : (p q : ℕ) → (bit (get_or rows p 0) q ≡ 1) ↔ ServedBelow l service k (p, q)
 
-pub no_rows : (l : Layout) (service : List Bool) (rows : List ℕ) → length rows ≡ 64 → ((p : ℕ) → get_or rows p 0 ≡ 0) → Rows l service rows 0
-no_rows l service rows wide none = record {
-  wide = wide;
+get_d_zeros : (n p : ℕ) → ◌≡◌ {A = ℕ} (get_or (replicate n 0) p 0) 0
+get_d_zeros zero p = refl
+get_d_zeros (suc n) zero = refl
+get_d_zeros (suc n) (suc p) = get_d_zeros n p
+
+pub no_rows : (l : Layout) (service : List Bool) → Rows l service (replicate l.places 0) 0
+no_rows l service = record {
+  wide = length-replicate l.places 0;
   neighbours = λ p q. (
-    (λ o. zero_one (bit (get_or rows p 0) q) (ap (λ (y : ℕ). bit y q) (none p) ∙ bit_none q) o),
+    (λ o. zero_one (bit (get_or (replicate l.places 0) p 0) q) (ap (λ (y : ℕ). bit y q) (get_d_zeros l.places p) ∙ bit_none q) o),
     (λ s. absurd (let h : s.coupler < 0 = s.below in omega arith)),
   );
 }
@@ -157,31 +162,17 @@ rows_skipped l service rows k none r = record {
     true_false h = cc
 
 -- all couplers
-pub rows_show : (l : Layout) (service : List Bool) (rows : List ℕ) (k : ℕ) → Sound l → length l.couplers ≤ k → Rows l service rows k
-    → Shows l service (take l.places rows)
-rows_show l service rows k so h r = record {
-  places = len;
+pub rows_show : (l : Layout) (service : List Bool) (rows : List ℕ) (k : ℕ) → length l.couplers ≤ k → Rows l service rows k
+    → Shows l service rows
+rows_show l service rows k h r = record {
+  places = r.wide;
   neighbours = λ p q. (
-    (λ o. elim (cases_lt p n) [
-      | inl lt ↦
-          let s = (r.neighbours p q).0 (ap (λ (y : ℕ). bit y q) (sym (get_or-take n rows p 0 lt)) ∙ o) in
-          record { coupler = s.coupler; joins = s.joins; serves = s.serves }
-      | inr ge ↦
-          zero_one (bit (get_or (take n rows) p 0) q) (ap (λ (y : ℕ). bit y q) (get_or_past (take n rows) p 0 (omega (arith, len))) ∙ bit_none q) o
-    ]),
+    (λ o. let s = (r.neighbours p q).0 o in record { coupler = s.coupler; joins = s.joins; serves = s.serves }),
     (λ s.
-        let e = ends_of l p q s.coupler so s.joins in
         let t = s.joins.there in
-        ap (λ (y : ℕ). bit y q) (get_or-take n rows p 0 e.from)
-        ∙ (r.neighbours p q).1 (record { coupler = s.coupler; below = omega arith; joins = s.joins; serves = s.serves })),
+        (r.neighbours p q).1 (record { coupler = s.coupler; below = omega arith; joins = s.joins; serves = s.serves })),
   );
 }
-  where
-    n : ℕ
-    n = l.places
-
-    len : length (take l.places rows) ≡ l.places
-    len = let a = so.at_most_64 in let w = r.wide in let e = length-take l.places rows in omega arith
 
 pub turned_on : {l : Layout} {service : List Bool} {p q : ℕ} → OnCoupler l service (p, q) → OnCoupler l service (q, p)
 turned_on {l} {service} {p} {q} s = record {
@@ -201,11 +192,6 @@ shows_graph l service adj so s = record {
   below = λ p q o. (let c = (s.neighbours p q).0 o in subst (λ (m : ℕ). q < m) (sym s.places) (ends_of l p q c.coupler so c.joins).to);
 }
 
-pub get_d_zeros : (n p : ℕ) → ◌≡◌ {A = ℕ} (get_or (replicate n 0) p 0) 0
-get_d_zeros zero p = refl
-get_d_zeros (suc n) zero = refl
-get_d_zeros (suc n) (suc p) = get_d_zeros n p
-
 -- rows with one coupler more
 next_rows : (l : Layout) (service : List Bool) (k : ℕ) → Sound l → k < length l.couplers → (rows : List ℕ) → Rows l service rows k
     → (b : Bool) → get_or service k false ≡ b → (rows' : List ℕ) × Rows l service rows' (k + 1)
@@ -216,7 +202,6 @@ next_rows l service k so h rows r true on =
     let mid = set rows a (bit_or (get_or rows a 0) (2 ^ b)) in
     let left = so.left_below k h in
     let right = so.right_below k h in
-    let few = so.at_most_64 in
     let wide = r.wide in (
       set mid b (bit_or (get_or mid b 0) (2 ^ a)),
       rows_joined l service rows (set mid b (bit_or (get_or mid b 0) (2 ^ a))) k a b h (sym (ap (λ (v : Bool). cond v (Some (ends_at l k)) None) on)) r
@@ -224,7 +209,7 @@ next_rows l service k so h rows r true on =
     )
 
 all_rows : (l : Layout) (service : List Bool) → Sound l → (k : ℕ) → k ≤ length l.couplers → (rows : List ℕ) × Rows l service rows k
-all_rows l service so zero h = (replicate 64 0, no_rows l service (replicate 64 0) refl (get_d_zeros 64))
+all_rows l service so zero h = (replicate l.places 0, no_rows l service)
 all_rows l service so (suc k) h =
     let before = all_rows l service so k (omega arith) in
     let here = next_rows l service k so h before.0 before.1 (get_or service k false) refl in
@@ -235,4 +220,4 @@ all_rows l service so (suc k) h =
 pub shown : (l : Layout) (service : List Bool) → Sound l → (adj : List ℕ) × Shows l service adj
 shown l service so =
     let r = all_rows l service so (length l.couplers) (omega arith) in
-    (take l.places r.0, rows_show l service r.0 (length l.couplers) so (omega arith) r.1)
+    (r.0, rows_show l service r.0 (length l.couplers) (omega arith) r.1)

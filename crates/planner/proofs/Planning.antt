@@ -1,8 +1,7 @@
 -- Plans for wanted sets are plans for the block.
-use Rattle.std.proofs.Common.{◌≡◌, ℕ, ◌^◌, ◌<◌, ◌≤◌, List, map, length, get_or, take, sym, ap, ◌∙◌, subst, ap₂, arith, get_or-take}
+use Rattle.std.proofs.Common.{◌≡◌, ℕ, ◌^◌, ◌<◌, ◌≤◌, List, map, length, get_or, sym, ap, ◌∙◌, subst, ap₂, arith}
 use lib.Count.{ones}
 use lib.Pow.{pow-lt}
-use Rattle.std.proofs.lemmas.List.{length-take}
 use Rattle.parity.specs.Words.{Gate, fresh, replay}
 use Rattle.parity.specs.Gates.{acts, TwoPlaces, Each}
 use Rattle.parity.specs.Pairing.{dot}
@@ -49,20 +48,20 @@ module _ (n : ℕ) (words at : List ℕ) (p : Placement n at) (low : (w : ℕ) �
   all_single h w l = ap ones (wanted_at w) ∙ single_carried n at p (get_or words w 0) (low w l) (h w l)
 
   -- a plan for the wanted sets is one for the block
-  pub planned_in : (adj ys ds es before after new : List ℕ) (k : ℕ) → length adj ≡ n → n ≤ 64 → length ys ≡ n
+  pub planned_in : (adj ys ds es before after new : List ℕ) (k : ℕ) → length adj ≡ n → n ≤ 64 → length ys ≡ n → length new ≡ n
       → Planned adj (map (wires_to_places at) words) ys ds es before after k → Lowest ys new
-      → PlanIn (OnEdge adj) n words at before after k (take n new)
-  planned_in adj ys ds es before after new k len small leny pl lo =
+      → PlanIn (OnEdge adj) n words at before after k new
+  planned_in adj ys ds es before after new k len small leny each pl lo =
       let own : (w : ℕ) → w < n → (q : ℕ) × (q < n) × (get_or ys w 0 ≡ 2 ^ q) =
       λ w h. (let o = pl.own_places.single w (omega arith) in (o.0, omega (arith, o.1), o.2)) in
-      let new_at : (w : ℕ) (h : w < n) → get_or (take n new) w 0 ≡ (own w h).0 =
-      λ w h. get_or-take n new w 0 h ∙ lo.singles w (own w h).0 (omega arith) (omega (arith, (own w h).1)) (own w h).2 in
+      let new_at : (w : ℕ) (h : w < n) → get_or new w 0 ≡ (own w h).0 =
+      λ w h. lo.singles w (own w h).0 (omega arith) (omega (arith, (own w h).1)) (own w h).2 in
       record {
         wrote = subst (λ (m : ℕ). Wrote before after 0 k (room m)) len pl.wrote;
         reaches = record {
           on_couplers = pl.on_edges;
           placed = record {
-            one_each = (let e = length-take n new in let f = lo.wide in omega arith);
+            one_each = each;
             below = λ w h. subst (λ (q : ℕ). q < n) (sym (new_at w h)) (own w h).1;
             apart = λ v w hv hw e. pl.own_places.apart v w (omega arith) (omega arith)
                 ((own v hv).2 ∙ ap (λ (q : ℕ). 2 ^ q) (sym (new_at v hv) ∙ e ∙ new_at w hw) ∙ sym (own w hw).2);

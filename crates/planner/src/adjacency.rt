@@ -1,9 +1,10 @@
 // Adjacency: which places are neighbours, read off a machine.
-ghost use Rattle.std.specs.Prelude.{◌≡◌, ◌<◌, length};
+ghost use Rattle.std.specs.Prelude.{◌≡◌, ◌<◌, ◌≤◌, length};
 ghost use Rattle.planner.specs.Adjacent.{Shows, serving_ends, Added};
 ghost use Rattle.planner.specs.Views.{neighbours_of};
 
 use crate::store::Adjacency;
+use arrayvec::ArrayVec;
 use chip::Chip;
 use machine::Machine;
 use parity::sets::single;
@@ -13,21 +14,21 @@ impl Adjacency {
     pub fn of<M: Machine>(machine: &M) -> Adjacency
         ensures { Shows (M.Chip.layout machine.now) (M.Machine.meaning machine.now).service (neighbours_of result) }
     {
-        let n = machine.width();
-        let mut rows = [0; 64];
+        let mut rows = ArrayVec::from([0; 64]);
+        rows.truncate(machine.width());
         for k in 0..machine.couplers() {
             if let Some((left, right)) = serving(machine, k) {
                 join(&mut rows, left, right);
             }
         }
-        Adjacency { rows, n }
+        Adjacency { rows }
     }
 
     // The number of places.
     pub fn places(&self) -> usize
-        ensures { result ≡ self.now.n }
+        ensures { result ≡ length (neighbours_of self.now) }
     {
-        self.n
+        self.rows.len()
     }
 }
 
@@ -41,8 +42,8 @@ fn serving<M: Machine>(machine: &M, k: usize) -> Option<(usize, usize)>
 }
 
 // Makes a and b neighbours.
-fn join(rows: &mut [u64; 64], a: usize, b: usize)
-    requires { (a < 64) × (b < 64) }
+fn join(rows: &mut [u64], a: usize, b: usize)
+    requires { (length rows.old ≤ 64) × ((a < length rows.old) × (b < length rows.old)) }
     ensures { Added rows.old rows.new a b }
 {
     rows[a] |= single(b);

@@ -1,5 +1,5 @@
 // Islands of a machine: which places hang together over the couplers in service.
-ghost use Rattle.std.specs.Prelude.{◌≡◌, ℕ, ◌<◌, ◌↔◌};
+ghost use Rattle.std.specs.Prelude.{◌≡◌, ℕ, ◌<◌, ◌↔◌, length};
 ghost use Rattle.parity.specs.Sets.{bit};
 ghost use Rattle.rounds.specs.Ways.{Way};
 ghost use Rattle.planner.specs.Adjacent.{Shows, CouplerWay};
@@ -21,14 +21,15 @@ pub fn island<M: Machine>(machine: &M, p: usize) -> u64
 impl Adjacency {
     // The places that a way between neighbours joins to p.
     fn island(&self, p: usize) -> u64
-        ensures { (q : ℕ) → (bit result q ≡ 1) ↔ ((p < self.now.n) × Way (neighbours_of self.now) p q) }
+        ensures { (q : ℕ) → (bit result q ≡ 1) ↔ ((p < length (neighbours_of self.now)) × Way (neighbours_of self.now) p q) }
     {
-        if p >= self.n {
+        let places = self.rows.len();
+        if p >= places {
             return 0;
         }
         let graph = LiveGraph {
-            rows: &self.rows[..self.n],
-            live: all_below(self.n),
+            rows: self.rows.as_slice(),
+            live: all_below(places),
         };
         graph.island_of(p)
     }

@@ -1,10 +1,6 @@
 // The plan: gates between neighbours and a new placement for the words of a block, or the truth that there are none.
-ghost use Rattle.std.specs.Prelude.{◌≡◌, ℕ, ◌-◌, ◌*◌, ◌^◌, ◌<◌, ◌≤◌, true, ◌↔◌, length, take, Some, None, Ok, Err, slice_index};
-ghost use Rattle.parity.specs.Placements.{Placement};
-ghost use Rattle.islands.specs.Graphs.{OnEdge};
+ghost use Rattle.std.specs.Prelude.{◌≡◌, ℕ, ◌-◌, ◌*◌, ◌<◌, ◌≤◌, true, ◌↔◌, length, Some, None, Ok, Err};
 ghost use Rattle.machine.specs.OnCoupler.{OnCoupler};
-ghost use Rattle.rounds.specs.Ways.{Graph};
-ghost use Rattle.rounds.specs.Duals.{Paired};
 ghost use Rattle.planner.specs.declared.fault.PlanFault.TheVariants.{SizeMismatch, BufferTooShort, Unreachable};
 ghost use Rattle.planner.specs.Adjacent.{Shows};
 ghost use Rattle.planner.specs.Plans.{room, NoPlan, PlanIn};
@@ -33,15 +29,15 @@ pub fn plan(
     places: &Places,
     out: &mut [u16],
 ) -> Result<Planned, PlanFault>
-    ensures planned { (p : Planned) → result ≡ Ok p → (p.places.n ≡ adjacency.now.n) × PlanFor adjacency.now block.now places.now out.old out.new p.gates (places_of p.places) }
-    ensures unreachable_exactly { (result ≡ Err Unreachable) ↔ (SizesAre adjacency.now.n block.now places.now × (room adjacency.now.n ≤ length out.old) × Planless adjacency.now block.now places.now) }
+    ensures planned { (p : Planned) → result ≡ Ok p → (length (places_of p.places) ≡ length (neighbours_of adjacency.now)) × PlanFor adjacency.now block.now places.now out.old out.new p.gates (places_of p.places) }
+    ensures unreachable_exactly { (result ≡ Err Unreachable) ↔ (SizesAre (length (neighbours_of adjacency.now)) block.now places.now × (room (length (neighbours_of adjacency.now)) ≤ length out.old) × Planless adjacency.now block.now places.now) }
     ensures needs_two_islands { result ≡ Err Unreachable → SomeStraddles (neighbours_of adjacency.now) (words_of block.now) (places_of places.now) }
-    ensures short_exactly { (needed : ℕ) → (result ≡ Err (BufferTooShort needed)) ↔ (SizesAre adjacency.now.n block.now places.now × (length out.old < room adjacency.now.n) × (needed ≡ room adjacency.now.n)) }
-    ensures mismatch_exactly { (result ≡ Err SizeMismatch) ↔ (SizesAre adjacency.now.n block.now places.now → ⊥) }
+    ensures short_exactly { (needed : ℕ) → (result ≡ Err (BufferTooShort needed)) ↔ (SizesAre (length (neighbours_of adjacency.now)) block.now places.now × (length out.old < room (length (neighbours_of adjacency.now))) × (needed ≡ room (length (neighbours_of adjacency.now)))) }
+    ensures mismatch_exactly { (result ≡ Err SizeMismatch) ↔ (SizesAre (length (neighbours_of adjacency.now)) block.now places.now → ⊥) }
     ensures refused_untouched { (f : PlanFault) → result ≡ Err f → out.new ≡ out.old }
 {
-    let n = adjacency.n;
-    if block.n != n || places.n != n {
+    let n = adjacency.places();
+    if block.wires() != n || places.wires() != n {
         return Err(PlanFault::SizeMismatch);
     }
     let needed = 2 * (n * (n - 1));
@@ -50,21 +46,15 @@ pub fn plan(
     }
     let mut wanted = [0; 64];
     let mut against = [0; 64];
-    let mut at = [0; 64];
-    let Some(gates) = plan_lists(
-        &adjacency.rows[..n],
-        &block.words[..block.n],
-        &block.duals[..block.n],
+    plan_sized(
+        adjacency,
+        block,
         places,
         &mut wanted[..n],
         &mut against[..n],
-        &mut at,
         out,
-    ) else {
-        return Err(PlanFault::Unreachable);
-    };
-    let places = Places { at, n };
-    Ok(Planned { gates, places })
+    )
+    .ok_or(PlanFault::Unreachable)
 }
 
 // The same for a machine, in words of its couplers in service as they are now.
@@ -74,7 +64,7 @@ pub fn plan_on<M: Machine>(
     places: &Places,
     out: &mut [u16],
 ) -> Result<Planned, PlanFault>
-    ensures planned { (p : Planned) → result ≡ Ok p → (p.places.n ≡ (M.Chip.layout machine.now).places) × PlanIn (OnCoupler (M.Chip.layout machine.now) (M.Machine.meaning machine.now).service) (M.Chip.layout machine.now).places (words_of block.now) (places_of places.now) out.old out.new p.gates (places_of p.places) }
+    ensures planned { (p : Planned) → result ≡ Ok p → (length (places_of p.places) ≡ (M.Chip.layout machine.now).places) × PlanIn (OnCoupler (M.Chip.layout machine.now) (M.Machine.meaning machine.now).service) (M.Chip.layout machine.now).places (words_of block.now) (places_of places.now) out.old out.new p.gates (places_of p.places) }
     ensures unreachable_exactly { (result ≡ Err Unreachable) ↔ (SizesAre (M.Chip.layout machine.now).places block.now places.now × (room (M.Chip.layout machine.now).places ≤ length out.old) × NoPlan (OnCoupler (M.Chip.layout machine.now) (M.Machine.meaning machine.now).service) (M.Chip.layout machine.now).places (words_of block.now) (places_of places.now)) }
     ensures needs_two_islands { result ≡ Err Unreachable → SomeOnTwo (M.Chip.layout machine.now) (M.Machine.meaning machine.now).service (words_of block.now) (places_of places.now) }
     ensures short_exactly { (needed : ℕ) → (result ≡ Err (BufferTooShort needed)) ↔ (SizesAre (M.Chip.layout machine.now).places block.now places.now × (length out.old < room (M.Chip.layout machine.now).places) × (needed ≡ room (M.Chip.layout machine.now).places)) }
@@ -84,34 +74,26 @@ pub fn plan_on<M: Machine>(
     plan(&Adjacency::of(machine), block, places, out)
 }
 
-// The plan as lists: for the words, dual words and places of n wires, with room for the wanted sets and their duals.
-// Kept: the room is arrays of the caller's, since a flush may ask for no memory.
-fn plan_lists(
-    adj: &[u64],
-    words: &[u64],
-    duals: &[u64],
-    old: &Places,
+// The plan where the sizes agree, with room for the wanted sets and their duals.
+fn plan_sized(
+    adjacency: &Adjacency,
+    block: &Block,
+    places: &Places,
     wanted: &mut [u64],
     against: &mut [u64],
-    new: &mut [usize],
     out: &mut [u16],
-) -> Option<usize>
-    requires small { length adj.now ≤ 64 }
-    requires graph { Graph adj.now }
-    requires lengths { (length words.now ≡ length adj.now) × (length duals.now ≡ length adj.now) }
-    requires scratch { (length wanted.old ≡ length adj.now) × (length against.old ≡ length adj.now) }
-    requires below { (w : ℕ) → w < length adj.now → slice_index words.now w < 2 ^ length adj.now }
-    requires duals_below { (w : ℕ) → w < length adj.now → slice_index duals.now w < 2 ^ length adj.now }
-    requires paired { Paired (length adj.now) words.now duals.now }
-    requires placed { Placement (length adj.now) (places_of old.now) }
-    requires room { (room (length adj.now) ≤ length out.old) × (length adj.now ≤ length new.old) }
-    ensures planned { (k : ℕ) → result ≡ Some k → PlanIn (OnEdge adj.now) (length adj.now) words.now (places_of old.now) out.old out.new k (take (length adj.now) new.new) }
-    ensures unreachable { result ≡ None → NoPlan (OnEdge adj.now) (length adj.now) words.now (places_of old.now) }
-    ensures needs_two_islands { result ≡ None → SomeStraddles adj.now words.now (places_of old.now) }
+) -> Option<Planned>
+    requires sizes { SizesAre (length (neighbours_of adjacency.now)) block.now places.now }
+    requires scratch { (length wanted.old ≡ length (neighbours_of adjacency.now)) × (length against.old ≡ length (neighbours_of adjacency.now)) }
+    requires room { room (length (neighbours_of adjacency.now)) ≤ length out.old }
+    ensures planned { (p : Planned) → result ≡ Some p → (length (places_of p.places) ≡ length (neighbours_of adjacency.now)) × PlanFor adjacency.now block.now places.now out.old out.new p.gates (places_of p.places) }
+    ensures unreachable { result ≡ None → Planless adjacency.now block.now places.now }
+    ensures needs_two_islands { result ≡ None → SomeStraddles (neighbours_of adjacency.now) (words_of block.now) (places_of places.now) }
     ensures untouched { result ≡ None → out.new ≡ out.old }
 {
-    carry_both(words, duals, old, wanted, against);
-    let gates = rounds::plan(adj, wanted, against, out)?;
-    lowest_of_each(wanted, new);
-    Some(gates)
+    carry_both(block, places, wanted, against);
+    let gates = rounds::plan(adjacency.rows.as_slice(), wanted, against, out)?;
+    let at = lowest_of_each(wanted);
+    let places = Places { at };
+    Some(Planned { gates, places })
 }

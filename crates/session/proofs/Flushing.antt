@@ -57,7 +57,7 @@ long_enough n len Sizes r p short_exactly sizes ok = by (cases_lt len (room n))
     by (inr le) = le
 
 pub planned_for : (s : State) (n : ℕ) (before after : List ℕ) (p : Planned) → sized s ≡ true → n ≡ s.session.places → room n ≤ length before
-    → p.places.n ≡ n
+    → length (places_of p.places) ≡ n
     → PlanIn (OnCoupler s.layout s.machine.service) n s.session.block s.session.placement before after p.gates (places_of p.places)
     → PlannedFor s before after p
 planned_for s n before after p z e enough wires plan = record {

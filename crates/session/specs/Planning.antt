@@ -10,4 +10,4 @@ pub record PlannedFor (s : State) (before after : List ℕ) (p : Planned) : Type
   pub size : sized s ≡ true
   pub long_enough : room s.session.places ≤ length before
   pub plan : HasPlan s before after p.gates (places_of p.places)
-  pub wires : p.places.n ≡ s.session.places
+  pub wires : length (places_of p.places) ≡ s.session.places

@@ -1,5 +1,5 @@
 -- A session as its calls' relations see it.
-use Rattle.std.specs.Prelude.{vec_items, vec_len}
+use Rattle.std.specs.Prelude.{length, vec_items, vec_len}
 use Rattle.chip.specs.Layout.{Layout}
 use Rattle.machine.specs.Meaning.{Meaning}
 use Rattle.planner.specs.Views.{words_of, places_of}
@@ -8,7 +8,7 @@ use Rattle.session.specs.State.{View, State, beside}
 
 abbrev pub view : Session → View
 view s = record {
-  places = s.block.n;
+  places = length (words_of s.block);
   couplers = vec_len s.records.items;
   number = s.number;
   block = words_of s.block;

@@ -1,8 +1,8 @@
 // Flush: the block turned into gates on couplers in service, and played.
-ghost use Rattle.std.specs.Prelude.{◌≡◌, map, Err, MatchResult};
+ghost use Rattle.std.specs.Prelude.{◌≡◌, map, length, Err, MatchResult};
 ghost use Rattle.parity.specs.Words.{gate_of};
 ghost use Rattle.machine.specs.OnCoupler.{OnCouplers};
-ghost use Rattle.planner.specs.Views.{places_of};
+ghost use Rattle.planner.specs.Views.{words_of, places_of};
 ghost use Rattle.session.specs.Begins.{begun};
 ghost use Rattle.session.specs.Flushes.{Flush, CarriesOut};
 ghost use Rattle.session.specs.Planning.{PlannedFor};
@@ -50,7 +50,7 @@ impl Session {
         places: Places,
     ) -> Result<usize, SessionFault>
         requires on_couplers { OnCouplers (M.Chip.layout machine.old) (M.Machine.meaning machine.old).service (map gate_of entries.now) }
-        requires wires { places.n ≡ self.old.block.n }
+        requires wires { length (places_of places) ≡ length (words_of self.old.block) }
         ensures { CarriesOut (state self.old (M.Chip.layout machine.old) (M.Machine.meaning machine.old)) entries.now (places_of places) result (state self.new (M.Chip.layout machine.new) (M.Machine.meaning machine.new)) }
     {
         let count = entries.len();
@@ -63,7 +63,7 @@ impl Session {
 
     // A new block, with the wires at new places.
     fn begin_block(&mut self, places: Places)
-        requires { places.n ≡ self.old.block.n }
+        requires { length (places_of places) ≡ length (words_of self.old.block) }
         ensures { view self.new ≡ begun (view self.old) (places_of places) }
     {
         let Some(block) = Block::new(self.block.wires()) else {

@@ -1,5 +1,6 @@
 // What a session keeps. It keeps no machine: every call that needs one is given it.
-ghost use Rattle.std.specs.Prelude.{◌≡◌};
+ghost use Rattle.std.specs.Prelude.{◌≡◌, length};
+ghost use Rattle.planner.specs.Views.{words_of, places_of};
 
 use crate::records::Records;
 use planner::store::{Block, Places};
@@ -10,5 +11,5 @@ pub struct Session {
     pub(crate) block: Block,
     pub(crate) places: Places,
     pub(crate) records: Records,
-    ghost same_size: { places.n ≡ block.n },
+    ghost same_size: { length (places_of places) ≡ length (words_of block) },
 }

@@ -4,5 +4,5 @@ use Rattle.planner.proofs.adjacency.join.Goals as goal
 
 pub returns : goal.returns
 returns c =
-    added c.args.rows.now c.args.a c.args.b c.single.result c.single-2.result (omega arith) (omega arith)
-    (c.single.ensures.place c.requires.1) (c.single-2.ensures.place c.requires.0)
+    added c.args.rows.now c.args.a c.args.b c.single.result c.single-2.result c.requires.1.0 c.requires.1.1
+    (c.single.ensures.place (omega arith)) (c.single-2.ensures.place (omega arith))

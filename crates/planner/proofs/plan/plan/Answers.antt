@@ -1,45 +1,52 @@
-use Rattle.std.proofs.Common.{◌≡◌, ℕ, ◌<◌, ◌≤◌, length, take, sym, refl, ◌∙◌, subst, arith, get_or-take}
+use Rattle.std.proofs.Common.{◌≡◌, ℕ, ◌≤◌, length, replicate, Some, None, Option, Ok, Err, sym, refl, ◌∙◌, subst, arith}
+use Rattle.std.specs.Option.{ok_or}
 use Rattle.parity.specs.Entries.{gates_in}
-use Rattle.islands.specs.Graphs.{OnEdge}
+use Rattle.planner.specs.declared.fault.PlanFault.TheVariants.{Unreachable}
+use Rattle.planner.specs.declared.fault.PlanFault.{PlanFault}
 use Rattle.planner.specs.declared.plan.Planned.{Planned}
-use Rattle.planner.specs.Plans.{room, PlanIn}
-use Rattle.planner.specs.Views.{neighbours_of, words_of, places_of, PlanFor}
-use Rattle.planner.proofs.Asking.{neighbours_length, ok_same}
+use Rattle.planner.specs.Plans.{room}
+use Rattle.planner.specs.Views.{neighbours_of, places_of, SizesAre}
+use Rattle.planner.proofs.Asking.{first_of_64}
 use Rattle.planner.proofs.plan.plan.Goals as goal
 
--- the plan that was found, over n in place of the length of the adjacency
-pub invariant_of-places : goal.invariant_of-places
-invariant_of-places c =
-    let a = c.args.adjacency.now in
-    let s : (c.args.block.now.n ≡ c.args.adjacency.now.n) × (c.args.places.now.n ≡ c.args.adjacency.now.n) = (c.if-block-n.false, c.if-places-n.false) in
-    let found = subst (λ (m : ℕ). PlanIn (OnEdge (neighbours_of a)) m (words_of c.args.block.now) (places_of c.args.places.now) c.args.out.now c.plan_lists.new.out c.in-Some.gates (take m c.plan_lists.new.new))
-    (neighbours_length a) (c.plan_lists.ensures.planned c.in-Some.gates c.in-Some.is) in
-    let new = c.plan_lists.new.new in
-    let placed = found.reaches.placed in
+pub plan_sized-requires : goal.plan_sized-requires
+plan_sized-requires c =
+    let few = c.args.adjacency.now.few in
+    let scratch = first_of_64 c.places-n.result (replicate 64 0) refl (omega arith) ∙ c.places-n.ensures in
     record {
-      room = c.plan_lists.auto.new;
-      some = omega (arith, c.args.block.now.some, s.0);
-      few = a.few;
-      below = λ w h. subst (λ (x : ℕ). x < a.n) (get_or-take a.n new w 0 h) (placed.below w h);
-      apart = λ v w t. placed.apart v w t.0 t.1 (get_or-take a.n new v 0 t.0 ∙ t.2 ∙ sym (get_or-take a.n new w 0 t.1));
+      sizes = (omega arith, omega arith);
+      scratch = (scratch, scratch);
+      room = subst (λ (m : ℕ). room m ≤ length c.args.out.now) c.places-n.ensures c.if-out-needed.false;
     }
+
+some_plan : {A F : Type 0} (r : Option A) (f : F) (p : A) → ok_or r f ≡ Ok p → r ≡ Some p
+some_plan (Some q) f p e = cc
+some_plan None f p e = absurd cc
+
+no_plan : {A F : Type 0} (r : Option A) (f g : F) → ok_or r f ≡ Err g → (r ≡ None) × (g ≡ f)
+no_plan (Some q) f g e = absurd cc
+no_plan None f g e = (refl, cc)
+
+refused_if_none : (r : Option Planned) → ((p : Planned) → r ≡ Some p → ⊥) → ok_or r Unreachable ≡ Err Unreachable
+refused_if_none (Some p) never = absurd (never p refl)
+refused_if_none None never = refl
 
 pub returns : goal.returns
 returns c =
-    let a = c.args.adjacency.now in
-    let s : (c.args.block.now.n ≡ c.args.adjacency.now.n) × (c.args.places.now.n ≡ c.args.adjacency.now.n) = (c.if-block-n.false, c.if-places-n.false) in
-    let enough : room a.n ≤ length c.args.out.now = c.if-out-needed.false in
-    let found = subst (λ (m : ℕ). PlanIn (OnEdge (neighbours_of a)) m (words_of c.args.block.now) (places_of c.args.places.now) c.args.out.now c.plan_lists.new.out c.in-Some.gates (take m c.plan_lists.new.new))
-    (neighbours_length a) (c.plan_lists.ensures.planned c.in-Some.gates c.in-Some.is) in
+    let n = length (neighbours_of c.args.adjacency.now) in
+    let sizes : SizesAre n c.args.block.now c.args.places.now = (omega arith, omega arith) in
+    let enough : room n ≤ length c.args.out.now = subst (λ (m : ℕ). room m ≤ length c.args.out.now) c.places-n.ensures c.if-out-needed.false in
+    let value = c.ok_or.ensures.value in
+    let refused : (f : PlanFault) → c.ok_or.result ≡ Err f → (c.plan_sized.result ≡ None) × (f ≡ Unreachable) =
+    λ f e. no_plan c.plan_sized.result Unreachable f (sym value ∙ e) in
     record {
-      planned = λ p e. subst (λ (z : Planned). (z.places.n ≡ a.n) × PlanFor a c.args.block.now c.args.places.now c.args.out.now c.plan_lists.new.out z.gates (places_of z.places))
-          (ok_same e) (refl, found);
+      planned = λ p e. c.plan_sized.ensures.planned p (some_plan c.plan_sized.result Unreachable p (sym value ∙ e));
       unreachable_exactly = (
-        (λ e. absurd cc),
-        (λ t. absurd (t.2 (gates_in c.plan_lists.new.out 0 c.in-Some.gates) (take a.n c.plan_lists.new.new) found.reaches)),
+        (λ e. (sizes, enough, c.plan_sized.ensures.unreachable (refused Unreachable e).0)),
+        (λ t. value ∙ refused_if_none c.plan_sized.result (λ p e. t.2 (gates_in c.plan_sized.new.out 0 p.gates) (places_of p.places) (c.plan_sized.ensures.planned p e).1.reaches)),
       );
-      needs_two_islands = λ e. absurd cc;
-      short_exactly = λ needed. ((λ e. absurd cc), (λ t. absurd (let h = t.1 in omega arith)));
-      mismatch_exactly = ((λ e. absurd cc), (λ no. absurd (no (s.0, s.1))));
-      refused_untouched = λ f e. absurd cc;
+      needs_two_islands = λ e. c.plan_sized.ensures.needs_two_islands (refused Unreachable e).0;
+      short_exactly = λ needed. ((λ e. absurd (let k = (refused _ e).1 in cc)), (λ t. absurd (let h = t.1 in omega arith)));
+      mismatch_exactly = ((λ e. absurd (let k = (refused _ e).1 in cc)), (λ no. absurd (no sizes)));
+      refused_untouched = λ f e. c.plan_sized.ensures.untouched (refused f e).0;
     }

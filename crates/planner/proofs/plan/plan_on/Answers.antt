@@ -1,9 +1,8 @@
-use Rattle.std.proofs.Common.{◌≡◌, ℕ, ◌<◌, ◌≤◌, ◌↔◌, length, Err, sym, ◌∙◌, subst}
+use Rattle.std.proofs.Common.{◌≡◌, ℕ, ◌<◌, ◌≤◌, ◌↔◌, length, Err, ◌∙◌, subst}
 use Rattle.machine.specs.OnCoupler.{OnCoupler}
 use Rattle.planner.specs.declared.fault.PlanFault.TheVariants.{SizeMismatch, BufferTooShort, Unreachable}
 use Rattle.planner.specs.Plans.{room, PlanIn, NoPlan}
 use Rattle.planner.specs.Views.{neighbours_of, words_of, places_of, SizesAre}
-use Rattle.planner.proofs.Asking.{neighbours_length}
 use Rattle.planner.proofs.Couplers.{plan_over, none_over, some_over}
 use Rattle.planner.proofs.plan.plan_on.Goals as goal
 
@@ -18,13 +17,14 @@ returns g c =
     let after = c.plan.new.out in
     let s = c.of.ensures in
     let e = c.plan.ensures in
-    let same : a.n ≡ l.places = sym (neighbours_length a) ∙ s.places in
-    let no = none_over l service (neighbours_of a) a.n (words_of b) (places_of p) s in
+    let same = s.places in
+    let n = length (neighbours_of a) in
+    let no = none_over l service (neighbours_of a) n (words_of b) (places_of p) s in
     record {
       planned = λ q z. (let t = e.planned q z in (
         t.0 ∙ same,
         subst (λ (n : ℕ). PlanIn (OnCoupler l service) n (words_of b) (places_of p) before after q.gates (places_of q.places)) same
-            (plan_over l service (neighbours_of a) a.n (words_of b) (places_of p) before after q.gates (places_of q.places) s t.1),
+            (plan_over l service (neighbours_of a) n (words_of b) (places_of p) before after q.gates (places_of q.places) s t.1),
       ));
       unreachable_exactly = subst (λ (n : ℕ). (c.plan.result ≡ Err Unreachable) ↔ (SizesAre n b p × (room n ≤ length before) × NoPlan (OnCoupler l service) n (words_of b) (places_of p))) same
           ((λ z. let t = e.unreachable_exactly.0 z in (t.0, t.1, no.0 t.2)), (λ t. e.unreachable_exactly.1 (t.0, t.1, no.1 t.2)));

@@ -1,6 +1,6 @@
-use Rattle.std.proofs.Common.{◌≡◌, ℕ, ◌≤◌, List, length, take, sym, refl, ap, ◌∙◌, subst, arith}
+use Rattle.std.proofs.Common.{◌≡◌, length, sym, ap, ◌∙◌, subst, arith}
 use Rattle.parity.specs.Words.{fresh}
-use Rattle.parity.proofs.Words.{length_fresh, take_fresh}
+use Rattle.parity.proofs.Words.{length_fresh}
 use Rattle.planner.specs.declared.store.Block.{Block}
 use Rattle.planner.specs.Views.{words_of}
 use Rattle.planner.proofs.Duality.{Dual, fresh_dual, some_same}
@@ -8,24 +8,24 @@ use Rattle.planner.proofs.store.Block.new.Goals as goal
 
 pub invariant_of-result : goal.invariant_of-result
 invariant_of-result c =
-    let n : c.args.n ≤ 64 = omega arith in
-    let d : Dual c.args.n c.fresh_words.result c.fresh_words-2.result =
-    subst (λ (ws : List ℕ). Dual c.args.n ws c.fresh_words-2.result) (sym c.fresh_words.ensures)
-    (subst (Dual c.args.n (fresh 64)) (sym c.fresh_words-2.ensures) (fresh_dual c.args.n n)) in
+    let n = c.args.n in
+    let words = c.fresh_of.result.items in
+    let each : length words ≡ n = ap length c.fresh_of.ensures ∙ length_fresh n in
+    let as_many : length c.fresh_of-2.result.items ≡ length words = ap length (c.fresh_of-2.ensures ∙ sym c.fresh_of.ensures) in
+    let d = subst (λ m. Dual m words c.fresh_of-2.result.items) (sym each)
+    (subst (λ xs. Dual n xs c.fresh_of-2.result.items) (sym c.fresh_of.ensures) (subst (Dual n (fresh n)) (sym c.fresh_of-2.ensures) (fresh_dual n))) in
     record {
-      word_room = ap length c.fresh_words.ensures ∙ length_fresh 64;
-      dual_room = ap length c.fresh_words-2.ensures ∙ length_fresh 64;
+      as_many = as_many;
       some = omega arith;
-      few = n;
+      few = omega arith;
       words_below = d.words_below;
       duals_below = d.duals_below;
-      own = d.own;
-      other = d.other;
+      paired = d.paired;
     }
 
 pub returns : goal.returns
 returns c = record {
-  some = λ b e. subst (λ (z : Block). (z.n ≡ c.args.n) × (words_of z ≡ fresh c.args.n)) (some_same e)
-      (refl, ap (take c.args.n) c.fresh_words.ensures ∙ take_fresh 64 c.args.n (omega arith));
+  some = λ b e. subst (λ (z : Block). (length (words_of z) ≡ c.args.n) × (words_of z ≡ fresh c.args.n)) (some_same e)
+      (ap length c.fresh_of.ensures ∙ length_fresh c.args.n, c.fresh_of.ensures);
   none = λ e. absurd cc;
 }
