@@ -31,13 +31,11 @@ impl LiveGraph<'_> {
     {
         let mut seen = single(start);
         let mut done: u64 = 0;
-        'walk: loop {
-            let Some(q) = lowest(without(seen, done)) else {
-                return seen;
-            };
+        while let Some(q) = lowest(without(seen, done)) {
             seen = with_live(seen, self.rows[q], self.live);
             done ^= single(q);
         }
+        seen
     }
 
     // Writes the island of root as a tree, breadth first: its places into order, the root first, and the parent

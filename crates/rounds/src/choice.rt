@@ -7,7 +7,7 @@ ghost use Rattle.rounds.specs.Ways.{Graph};
 ghost use Rattle.rounds.specs.Rounds.{CanGo};
 
 use islands::LiveGraph;
-use parity::sets::{has, lowest, single};
+use parity::sets::{has, lowest, single, without};
 
 // The first of the waiting wires whose set and dual have the fewest places, if any waits.
 pub fn next_wire(waiting: u64, wanted: &[u64], duals: &[u64]) -> Option<usize>
@@ -39,25 +39,24 @@ pub fn root(graph: &LiveGraph<'_>, start: usize) -> usize
     let mut order = [0; 64];
     let mut parent = [0; 64];
     let n = graph.tree_order(start, &mut order, &mut parent);
-    let island = graph.island_of(start);
-    for r in &order[..n] {
-        if hangs_together_without(graph, island, *r) {
-            return *r;
-        }
-    }
-    order[n - 1]
+    let island = LiveGraph {
+        rows: graph.rows,
+        live: graph.island_of(start),
+    };
+    order[..n]
+        .iter()
+        .find(|r| hangs_together_without(&island, **r))
+        .copied()
+        .unwrap_or(order[n - 1])
 }
 
-// Whether the other places of the island reach one another without r.
-fn hangs_together_without(graph: &LiveGraph<'_>, island: u64, r: usize) -> bool
-    requires graph { Graph graph.now.rows.now }
-    requires inside { island < 2 ^ length graph.now.rows.now }
-    requires has { (bit island r ≡ 1) × (r < 64) }
-    ensures { result ≡ true → (x y : ℕ) → x ≢ r → y ≢ r → bit island x ≡ 1 → bit island y ≡ 1 → Reach graph.now.rows.now (bit_xor island (2 ^ r)) x y }
+// Whether the other places of an island reach one another without r.
+fn hangs_together_without(island: &LiveGraph<'_>, r: usize) -> bool
+    ensures { result ≡ true → Graph island.now.rows.now → bit island.now.live r ≡ 1 → (x y : ℕ) → x ≢ r → y ≢ r → bit island.now.live x ≡ 1 → bit island.now.live y ≡ 1 → Reach island.now.rows.now (bit_xor island.now.live (2 ^ r)) x y }
 {
-    let rest = island ^ single(r);
+    let rest = without(island.live, single(r));
     let others = LiveGraph {
-        rows: graph.rows,
+        rows: island.rows,
         live: rest,
     };
     match lowest(rest) {

@@ -8,8 +8,8 @@ use Rattle.islands.specs.Graphs.{Reach, here, there}
 use Rattle.islands.proofs.Reached.{reach_closed}
 use Rattle.islands.proofs.LiveGraph.island_of.Goals as goal
 
-pub walk-init : goal.walk-init
-walk-init c =
+pub loop-q-init : goal.loop-q-init
+loop-q-init c =
     let s = c.args.start in
     let r : c.single-seen.result ≡ 2 ^ s = c.single-seen.ensures.place (omega arith) in (
       subst (λ (x : ℕ). x < 2 ^ length c.args.self.now.rows.now) (sym r) (pow-lt c.requires),
@@ -19,13 +19,13 @@ walk-init c =
       λ q _ o _ _. zero_one (bit 0 q) (bit_none q) o,
     )
 
-pub returns-in_default : goal.returns-in_default
-returns-in_default c =
-    let inv = c.walk.invariant in
-    let seen = c.walk.seen in
+pub returns : goal.returns
+returns c =
+    let inv = c.loop-q.invariant in
+    let seen = c.loop-q.seen in
     let none : (q : ℕ) → bit c.without.result q ≡ 0 = λ q. ap (λ x. bit x q) c.in_default.ensures ∙ bit_none q in
-    let all : (q : ℕ) → bit seen q ≡ 1 → bit c.walk.done q ≡ 1 =
-    λ q o. set_unless c.walk.done q (λ z. zero_one (bit c.without.result q) (none q) (c.without.ensures.all q o z)) in
+    let all : (q : ℕ) → bit seen q ≡ 1 → bit c.loop-q.done q ≡ 1 =
+    λ q o. set_unless c.loop-q.done q (λ z. zero_one (bit c.without.result q) (none q) (c.without.ensures.all q o z)) in
     record {
       only_reached = inv.2;
       all_reached = λ q p. reach_closed c.args.self.now.rows.now c.args.self.now.live c.args.start seen inv.1 (λ a b h. inv.4 a b (all a h)) p;
@@ -33,32 +33,32 @@ returns-in_default c =
 
 pub bounds-self-q : goal.bounds-self-q
 bounds-self-q c =
-    place_below (length c.args.self.now.rows.now) c.walk.seen c.in-Some.q c.walk.invariant.0
+    place_below (length c.args.self.now.rows.now) c.loop-q.seen c.in-Some.q c.loop-q.invariant.0
     (c.without.ensures.only c.in-Some.q c.in-Some.ensures.inside).0
 
 -- the place that was picked: it is seen, and not done
-picked : (c : goal.After-single-done) → (bit c.walk.seen c.in-Some.q ≡ 1) × (bit c.walk.done c.in-Some.q ≡ 0)
+picked : (c : goal.After-single-done) → (bit c.loop-q.seen c.in-Some.q ≡ 1) × (bit c.loop-q.done c.in-Some.q ≡ 0)
 picked c = c.without.ensures.only c.in-Some.q c.in-Some.ensures.inside
 
-pub walk-smaller : goal.walk-smaller
-walk-smaller c =
+pub loop-q-smaller : goal.loop-q-smaller
+loop-q-smaller c =
     let q = c.in-Some.q in
-    let d = c.walk.done in
+    let d = c.loop-q.done in
     let low = c.in-Some.ensures.below in
     let e : bit_xor d c.single-done.result ≡ d + 2 ^ q = ap (bit_xor d) (c.single-done.ensures.place low) ∙ flip_up d q (picked c).1 in
-    let b : d < 2 ^ 64 = c.walk.invariant.3 in
+    let b : d < 2 ^ 64 = c.loop-q.invariant.3 in
     let p = pow_pos q in
     let goal : 2 ^ 64 - bit_xor d c.single-done.result < 2 ^ 64 - d = omega arith in
     goal
 
-pub walk-preserved : goal.walk-preserved
-walk-preserved c =
+pub loop-q-preserved : goal.loop-q-preserved
+loop-q-preserved c =
     let adj = c.args.self.now.rows.now in
     let live = c.args.self.now.live in
     let q = c.in-Some.q in
-    let d = c.walk.done in
-    let seen = c.walk.seen in
-    let inv = c.walk.invariant in
+    let d = c.loop-q.done in
+    let seen = c.loop-q.seen in
+    let inv = c.loop-q.invariant in
     let more = bit_and (get_or adj q 0) live in
     let low = c.in-Some.ensures.below in
     let grown : c.with_live-seen.result ≡ bit_or seen more = c.with_live-seen.ensures in
