@@ -1,6 +1,5 @@
 -- What the planner is asked with meets what the rounds need.
-use Rattle.std.proofs.Common.{◌≡◌, ℕ, ◌^◌, ◌<◌, ◌≤◌, List, length, get_or, take, subst, arith}
-use Rattle.std.proofs.lemmas.List.{length-take}
+use Rattle.std.proofs.Common.{ℕ, ◌^◌, ◌<◌, length, get_or, subst, arith}
 use Rattle.parity.specs.Placements.{Placement}
 use Rattle.rounds.specs.Duals.{Paired}
 use Rattle.planner.specs.declared.store.Block.{Block}
@@ -25,6 +24,3 @@ module _ (n : ℕ) (b : Block) (p : Places) (s : SizesAre n b p) where
   pub placed : Placement n (places_of p)
   placed = subst (λ (m : ℕ). Placement m (places_of p)) s.1 p.placed
 
--- room for n of 64
-pub first_of_64 : (n : ℕ) (xs : List ℕ) → length xs ≡ 64 → n ≤ 64 → length (take n xs) ≡ n
-first_of_64 n xs e h = let f = length-take n xs in omega arith

@@ -2,30 +2,22 @@
 ghost use Rattle.std.specs.Prelude.{◌≡◌, ℕ, ◌<◌, ◌≤◌, map, length, slice_index};
 ghost use Rattle.parity.specs.Placements.{wires_to_places};
 ghost use Rattle.planner.specs.Plans.{Lowest};
-ghost use Rattle.planner.specs.Views.{words_of, duals_of, places_of};
+ghost use Rattle.planner.specs.Views.{places_of};
 
-use crate::store::{Block, Places};
+use crate::store::Places;
 use arrayvec::ArrayVec;
 use parity::sets::{flip, has, lowest};
 
-// The places of the wires in each word and in each dual word.
-pub(crate) fn carry_both(block: &Block, places: &Places, wanted: &mut [u64], against: &mut [u64])
-    requires lengths { (length (words_of block.now) ≡ length wanted.old) × (length (words_of block.now) ≡ length against.old) }
-    ensures wanted { wanted.new ≡ map (wires_to_places (places_of places.now)) (words_of block.now) }
-    ensures against { against.new ≡ map (wires_to_places (places_of places.now)) (duals_of block.now) }
-{
-    carry_to_places(block.words(), places, wanted);
-    carry_to_places(block.duals.as_slice(), places, against);
-}
-
 // The places of the wires in each word: what a wire wants at its new place.
-pub(crate) fn carry_to_places(words: &[u64], places: &Places, sets: &mut [u64])
-    requires lengths { length words.now ≡ length sets.old }
-    ensures { sets.new ≡ map (wires_to_places (places_of places.now)) words.now }
+pub(crate) fn carry_to_places(words: &[u64], places: &Places) -> ArrayVec<u64, 64>
+    requires { length words.now ≤ 64 }
+    ensures { result.items ≡ map (wires_to_places (places_of places.now)) words.now }
 {
-    for (w, word) in words.iter().enumerate() {
-        sets[w] = places_of_wires(*word, places);
+    let mut sets = ArrayVec::new();
+    for word in words {
+        sets.push(places_of_wires(*word, places));
     }
+    sets
 }
 
 // The places of the wires in x.

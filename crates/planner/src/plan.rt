@@ -7,7 +7,7 @@ ghost use Rattle.planner.specs.Plans.{room, NoPlan, PlanIn};
 ghost use Rattle.planner.specs.Reasons.{SomeOnTwo, SomeStraddles};
 ghost use Rattle.planner.specs.Views.{neighbours_of, words_of, places_of, SizesAre, PlanFor, Planless};
 
-use crate::carry::{carry_both, lowest_of_each};
+use crate::carry::{carry_to_places, lowest_of_each};
 use crate::fault::PlanFault;
 use crate::store::{Adjacency, Block, Places};
 use chip::Chip;
@@ -44,17 +44,7 @@ pub fn plan(
     if out.len() < needed {
         return Err(PlanFault::BufferTooShort { needed });
     }
-    let mut wanted = [0; 64];
-    let mut against = [0; 64];
-    plan_sized(
-        adjacency,
-        block,
-        places,
-        &mut wanted[..n],
-        &mut against[..n],
-        out,
-    )
-    .ok_or(PlanFault::Unreachable)
+    plan_sized(adjacency, block, places, out).ok_or(PlanFault::Unreachable)
 }
 
 // The same for a machine, in words of its couplers in service as they are now.
@@ -74,26 +64,29 @@ pub fn plan_on<M: Machine>(
     plan(&Adjacency::of(machine), block, places, out)
 }
 
-// The plan where the sizes agree, with room for the wanted sets and their duals.
+// The plan where the sizes agree and there is room for it.
 fn plan_sized(
     adjacency: &Adjacency,
     block: &Block,
     places: &Places,
-    wanted: &mut [u64],
-    against: &mut [u64],
     out: &mut [u16],
 ) -> Option<Planned>
     requires sizes { SizesAre (length (neighbours_of adjacency.now)) block.now places.now }
-    requires scratch { (length wanted.old ≡ length (neighbours_of adjacency.now)) × (length against.old ≡ length (neighbours_of adjacency.now)) }
     requires room { room (length (neighbours_of adjacency.now)) ≤ length out.old }
     ensures planned { (p : Planned) → result ≡ Some p → (length (places_of p.places) ≡ length (neighbours_of adjacency.now)) × PlanFor adjacency.now block.now places.now out.old out.new p.gates (places_of p.places) }
     ensures unreachable { result ≡ None → Planless adjacency.now block.now places.now }
     ensures needs_two_islands { result ≡ None → SomeStraddles (neighbours_of adjacency.now) (words_of block.now) (places_of places.now) }
     ensures untouched { result ≡ None → out.new ≡ out.old }
 {
-    carry_both(block, places, wanted, against);
-    let gates = rounds::plan(adjacency.rows.as_slice(), wanted, against, out)?;
-    let at = lowest_of_each(wanted);
+    let mut wanted = carry_to_places(block.words(), places);
+    let mut against = carry_to_places(block.duals.as_slice(), places);
+    let gates = rounds::plan(
+        adjacency.rows.as_slice(),
+        wanted.as_mut_slice(),
+        against.as_mut_slice(),
+        out,
+    )?;
+    let at = lowest_of_each(wanted.as_slice());
     let places = Places { at };
     Some(Planned { gates, places })
 }

@@ -28,22 +28,15 @@ pub fn first_on_two_islands<M: Machine>(
     if block.wires() != n || places.wires() != n {
         return None;
     }
-    let mut wanted = [0; 64];
-    first_sized(&adjacency, block, places, &mut wanted[..n])
+    first_sized(&adjacency, block, places)
 }
 
-// The same where the sizes agree, with room for the wanted sets.
-fn first_sized(
-    adjacency: &Adjacency,
-    block: &Block,
-    places: &Places,
-    wanted: &mut [u64],
-) -> Option<usize>
+// The same where the sizes agree.
+fn first_sized(adjacency: &Adjacency, block: &Block, places: &Places) -> Option<usize>
     requires sizes { SizesAre (length (neighbours_of adjacency.now)) block.now places.now }
-    requires scratch { length wanted.old ≡ length (neighbours_of adjacency.now) }
     ensures first { (w : ℕ) → result ≡ Some w → FirstStraddling (neighbours_of adjacency.now) (map (wires_to_places (places_of places.now)) (words_of block.now)) w }
     ensures none { result ≡ None → (w : ℕ) → w < length (neighbours_of adjacency.now) → OneIsland (neighbours_of adjacency.now) (slice_index (map (wires_to_places (places_of places.now)) (words_of block.now)) w) }
 {
-    carry_to_places(block.words(), places, wanted);
-    first_straddling(adjacency.rows.as_slice(), wanted)
+    let wanted = carry_to_places(block.words(), places);
+    first_straddling(adjacency.rows.as_slice(), wanted.as_slice())
 }

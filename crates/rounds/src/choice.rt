@@ -1,6 +1,6 @@
 // The free choices of a plan: which wire is next, and which place it is given.
 // The plan is right for any choice that meets these contracts.
-ghost use Rattle.std.specs.Prelude.{◌≡◌, ℕ, ◌^◌, ◌<◌, ◌≤◌, true, ◌≢◌, length, bit_xor, MatchOption};
+ghost use Rattle.std.specs.Prelude.{◌≡◌, ℕ, ◌+◌, ◌^◌, ◌<◌, ◌≤◌, true, ◌≢◌, length, bit_xor, count_ones, MatchOption};
 ghost use Rattle.parity.specs.Sets.{bit};
 ghost use Rattle.islands.specs.Graphs.{Reach};
 ghost use Rattle.rounds.specs.Ways.{Graph};
@@ -13,16 +13,21 @@ use parity::sets::{has, lowest, single, without};
 pub fn next_wire(waiting: u64, wanted: &[u64], duals: &[u64]) -> Option<usize>
     ensures { MatchOption result (waiting ≡ 0) (λ w. bit waiting w ≡ 1) }
 {
-    let mut next = lowest(waiting)?;
-    let mut least: u32 = 129;
-    for (w, (x, y)) in wanted.iter().zip(duals.iter()).enumerate() {
-        let size = x.count_ones() + y.count_ones();
-        if size < least && has(waiting, w) {
-            next = w;
-            least = size;
-        }
-    }
-    Some(next)
+    let first = lowest(waiting)?;
+    let fewest = wanted
+        .iter()
+        .zip(duals.iter())
+        .enumerate()
+        .filter(|(w, _)| has(waiting, *w))
+        .min_by_key(|(_, (x, y))| size(x, y));
+    Some(fewest.map_or(first, |(w, _)| w))
+}
+
+// How many places a set and its dual have.
+fn size(set: &u64, dual: &u64) -> u32
+    ensures { result ≡ count_ones set.now + count_ones dual.now }
+{
+    set.count_ones() + dual.count_ones()
 }
 
 // A place of start's island that can go: the nearest to start that is found.

@@ -1,4 +1,4 @@
-use Rattle.std.proofs.Common.{◌≡◌, ℕ, ◌≤◌, length, replicate, Some, None, Option, Ok, Err, sym, refl, ◌∙◌, subst, arith}
+use Rattle.std.proofs.Common.{◌≡◌, ℕ, ◌≤◌, length, Some, None, Option, Ok, Err, sym, refl, ◌∙◌, subst, arith}
 use Rattle.std.specs.Option.{ok_or}
 use Rattle.parity.specs.Entries.{gates_in}
 use Rattle.planner.specs.declared.fault.PlanFault.TheVariants.{Unreachable}
@@ -6,16 +6,12 @@ use Rattle.planner.specs.declared.fault.PlanFault.{PlanFault}
 use Rattle.planner.specs.declared.plan.Planned.{Planned}
 use Rattle.planner.specs.Plans.{room}
 use Rattle.planner.specs.Views.{neighbours_of, places_of, SizesAre}
-use Rattle.planner.proofs.Asking.{first_of_64}
 use Rattle.planner.proofs.plan.plan.Goals as goal
 
 pub plan_sized-requires : goal.plan_sized-requires
 plan_sized-requires c =
-    let few = c.args.adjacency.now.few in
-    let scratch = first_of_64 c.places-n.result (replicate 64 0) refl (omega arith) ∙ c.places-n.ensures in
     record {
       sizes = (omega arith, omega arith);
-      scratch = (scratch, scratch);
       room = subst (λ (m : ℕ). room m ≤ length c.args.out.now) c.places-n.ensures c.if-out-needed.false;
     }
 

@@ -1,5 +1,7 @@
 use Rattle.std.proofs.Common.{◌≡◌, ℕ, ◌^◌, ◌<◌, ◌≤◌, List, map, length, get_or, sym, refl, ap, ◌∙◌, subst, arith}
 use Rattle.std.proofs.lemmas.List.{length-map}
+use Rattle.arrayvec.specs.ArrayVec.{ArrayVec, with_items}
+use Rattle.arrayvec.proofs.ArrayVecLemmas.{items-with_items}
 use Rattle.parity.specs.Gates.{acts}
 use Rattle.parity.specs.Entries.{gates_in}
 use Rattle.parity.specs.Placements.{Placement, wires_to_places}
@@ -23,11 +25,12 @@ plan-requires c =
     let a = c.args.adjacency.now in
     let b = c.args.block.now in
     let p = c.args.places.now in
-    let same = c.as_slice.ensures.value in
-    let n = length c.as_slice.result.now in
+    let same = c.as_slice-2.ensures.value in
+    let n = length c.as_slice-2.result.now in
     let s : SizesAre n b p = subst (λ (l : List ℕ). SizesAre (length l) b p) (sym same) c.requires.sizes in
-    let e = c.carry_both.ensures.wanted in
-    let f = c.carry_both.ensures.against in
+    let carried = map (wires_to_places (places_of p)) in
+    let e : c.as_mut_slice.result.now ≡ carried (words_of b) = c.as_mut_slice.ensures.value ∙ c.carry_to_places-wanted.ensures ∙ ap carried c.words.ensures in
+    let f : c.as_mut_slice-2.result.now ≡ carried (duals_of b) = c.as_mut_slice-2.ensures.value ∙ c.carry_to_places-against.ensures ∙ ap carried c.as_slice.ensures.value in
     let low = wanted_below n (words_of b) (places_of p) (placed n b p s) (words_below n b p s) in
     record {
       small = omega arith;
@@ -35,31 +38,35 @@ plan-requires c =
       lengths = (ap length e ∙ length-map (words_of b) (wires_to_places (places_of p)) ∙ s.0, ap length f ∙ length-map (duals_of b) (wires_to_places (places_of p)) ∙ b.as_many ∙ s.0);
       sets_below = λ w. subst (λ (l : List ℕ). get_or l w 0 < 2 ^ n) (sym e) (low w);
       duals_below = λ w. subst (λ (l : List ℕ). get_or l w 0 < 2 ^ n) (sym f) (wanted_below n (duals_of b) (places_of p) (placed n b p s) (duals_below n b p s) w);
-      paired = subst (λ (l : List ℕ). Paired n l c.carry_both.new.against) (sym e)
-          (subst (Paired n (map (wires_to_places (places_of p)) (words_of b))) (sym f) (wanted_paired n (words_of b) (places_of p) (placed n b p s) (words_below n b p s) (duals_of b) (paired n b p s)));
+      paired = subst (λ (l : List ℕ). Paired n l c.as_mut_slice-2.result.now) (sym e)
+          (subst (Paired n (carried (words_of b))) (sym f) (wanted_paired n (words_of b) (places_of p) (placed n b p s) (words_below n b p s) (duals_of b) (paired n b p s)));
       room = subst (λ (l : List ℕ). room (length l) ≤ length c.args.out.now) (sym same) c.requires.room;
     }
 
--- what was found is a plan for the block
-sized_plan : (a : Adjacency) (b : Block) (p : Places) → SizesAre (length (neighbours_of a)) b p → (adj xs ys ds es before after new : List ℕ) (k : ℕ)
-    → adj ≡ neighbours_of a → xs ≡ map (wires_to_places (places_of p)) (words_of b) → Planned adj xs ys ds es before after k
-    → length new ≡ length ys → Lowest ys new → PlanFor a b p before after k new
-sized_plan a b p s adj xs ys ds es before after new k same wanted found each lo =
+-- what was found is a plan for the block, with the places that are read off the vector of wanted sets
+sized_plan : (a : Adjacency) (b : Block) (p : Places) → SizesAre (length (neighbours_of a)) b p → (wanted : ArrayVec ℕ) (adj xs ys ds es before after left new : List ℕ) (k : ℕ)
+    → adj ≡ neighbours_of a → xs ≡ wanted.items → wanted.items ≡ map (wires_to_places (places_of p)) (words_of b) → Planned adj xs ys ds es before after k
+    → left ≡ (with_items wanted ys).items → length new ≡ length left → Lowest left new → PlanFor a b p before after k new
+sized_plan a b p s wanted adj xs ys ds es before after left new k same e f found g each lo =
     let n = length (neighbours_of a) in
-    let pl = subst (λ (l : List ℕ). Planned l (map (wires_to_places (places_of p)) (words_of b)) ys ds es before after k) same
-    (subst (λ (l : List ℕ). Planned adj l ys ds es before after k) wanted found) in
-    let moved : length ys ≡ n =
-    ap length pl.moved ∙ length-map (map (wires_to_places (places_of p)) (words_of b)) (acts (gates_in after 0 k)) ∙ length-map (words_of b) (wires_to_places (places_of p)) ∙ s.0 in
-    planned_in n (words_of b) (places_of p) (placed n b p s) (words_below n b p s) (neighbours_of a) ys ds es before after new k refl a.few moved (each ∙ moved) pl lo
+    let carried = map (wires_to_places (places_of p)) (words_of b) in
+    let as_many : length ys ≡ length xs = ap length found.moved ∙ length-map xs (acts (gates_in after 0 k)) in
+    let kept : left ≡ ys = g ∙ items-with_items wanted ys (as_many ∙ ap length e) in
+    let moved : length ys ≡ n = as_many ∙ ap length (e ∙ f) ∙ length-map (words_of b) (wires_to_places (places_of p)) ∙ s.0 in
+    let pl = subst (λ (l : List ℕ). Planned l carried ys ds es before after k) same (subst (λ (l : List ℕ). Planned adj l ys ds es before after k) (e ∙ f) found) in
+    planned_in n (words_of b) (places_of p) (placed n b p s) (words_below n b p s) (neighbours_of a) ys ds es before after new k refl a.few moved
+    (each ∙ ap length kept ∙ moved) pl (subst (λ (l : List ℕ). Lowest l new) kept lo)
 
 pub invariant_of-places : goal.invariant_of-places
 invariant_of-places c =
     let a = c.args.adjacency.now in
     let b = c.args.block.now in
-    let s = c.requires.sizes in
+    let p = c.args.places.now in
     let at = c.lowest_of_each-at in
-    let new = (sized_plan a b c.args.places.now s _ _ _ _ _ _ _ at.result.items _ c.as_slice.ensures.value c.carry_both.ensures.wanted
-    (c.plan.ensures.planned c.in_ok-gates.gates c.in_ok-gates.was) at.ensures.one_each at.ensures.lowest).reaches.placed in
+    let s = c.requires.sizes in
+    let new = (sized_plan a b p s c.carry_to_places-wanted.result _ _ _ _ _ _ _ _ at.result.items _ c.as_slice-2.ensures.value c.as_mut_slice.ensures.value
+    (c.carry_to_places-wanted.ensures ∙ ap (map (wires_to_places (places_of p))) c.words.ensures) (c.plan.ensures.planned c.in_ok-gates.gates c.in_ok-gates.was)
+    c.as_slice-3.ensures.value at.ensures.one_each at.ensures.lowest).reaches.placed in
     let few = a.few in
     let some = b.some in
     let each = new.one_each in
@@ -75,8 +82,9 @@ returns c =
     let b = c.args.block.now in
     let p = c.args.places.now in
     let at = c.lowest_of_each-at in
-    let found = sized_plan a b p c.requires.sizes _ _ _ _ _ _ _ at.result.items _ c.as_slice.ensures.value c.carry_both.ensures.wanted
-    (c.plan.ensures.planned c.in_ok-gates.gates c.in_ok-gates.was) at.ensures.one_each at.ensures.lowest in
+    let found = sized_plan a b p c.requires.sizes c.carry_to_places-wanted.result _ _ _ _ _ _ _ _ at.result.items _ c.as_slice-2.ensures.value c.as_mut_slice.ensures.value
+    (c.carry_to_places-wanted.ensures ∙ ap (map (wires_to_places (places_of p))) c.words.ensures) (c.plan.ensures.planned c.in_ok-gates.gates c.in_ok-gates.was)
+    c.as_slice-3.ensures.value at.ensures.one_each at.ensures.lowest in
     record {
       planned = λ q z. subst (λ (r : Answer). (length (places_of r.places) ≡ length (neighbours_of a)) × PlanFor a b p c.args.out.now c.plan.new.out r.gates (places_of r.places)) (some_same z) (found.reaches.placed.one_each, found);
       unreachable = λ z. absurd cc;
@@ -91,8 +99,10 @@ returns-in_err-gates c =
     let p = c.args.places.now in
     let s = c.requires.sizes in
     let n = length (neighbours_of a) in
-    let refused = subst (λ l. Refused l (map (wires_to_places (places_of p)) (words_of b))) c.as_slice.ensures.value
-    (subst (Refused c.as_slice.result.now) c.carry_both.ensures.wanted (c.plan.ensures.refused c.in_err-gates.was)) in
+    let carried = map (wires_to_places (places_of p)) in
+    let e : c.as_mut_slice.result.now ≡ carried (words_of b) = c.as_mut_slice.ensures.value ∙ c.carry_to_places-wanted.ensures ∙ ap carried c.words.ensures in
+    let refused = subst (λ l. Refused l (carried (words_of b))) c.as_slice-2.ensures.value
+    (subst (Refused c.as_slice-2.result.now) e (c.plan.ensures.refused c.in_err-gates.was)) in
     record {
       planned = λ j z. absurd cc;
       unreachable = λ _. refused_none n (words_of b) (places_of p) (placed n b p s) (words_below n b p s) (neighbours_of a) a.graph refl refused;

@@ -1,19 +1,17 @@
-use Rattle.std.proofs.Common.{◌≡◌, ℕ, ◌<◌, map, length, get_or, replicate, sym, refl, ◌∙◌, subst, arith}
+use Rattle.std.proofs.Common.{◌≡◌, ℕ, ◌<◌, map, length, get_or, sym, ◌∙◌, subst, arith}
 use Rattle.std.proofs.lemmas.List.{length-map}
 use Rattle.parity.specs.Placements.{wires_to_places}
 use Rattle.rounds.specs.Ways.{OneIsland, Straddles}
 use Rattle.planner.specs.Views.{neighbours_of, words_of, places_of, SizesAre}
-use Rattle.planner.proofs.Asking.{words_below, placed, first_of_64}
+use Rattle.planner.proofs.Asking.{words_below, placed}
 use Rattle.planner.proofs.Planning.{wanted_at}
 use Rattle.planner.proofs.Couplers.{straddles_over, one_island_over}
 use Rattle.planner.proofs.reason.first_on_two_islands.Goals as goal
 
 pub first_sized-requires : goal.first_sized-requires
 first_sized-requires g c =
-    let few = c.of-adjacency.result.few in
     record {
       sizes = (omega (arith, c.wires.ensures, c.places-n.ensures), omega (arith, c.wires-else-wires-n.ensures, c.places-n.ensures));
-      scratch = first_of_64 c.places-n.result (replicate 64 0) refl (omega (arith, c.places-n.ensures)) ∙ c.places-n.ensures;
     }
 
 pub returns : goal.returns
