@@ -23,12 +23,12 @@ impl Spaced for u64 {
     }
 }
 
-// A place.
+// A place, as a word.
 impl Spaced for usize {
     ghost text = { spaced_number };
 
     fn add_to(&self, line: &mut String) -> Result<(), AllocError> {
-        write!(line, " {self}")
+        (*self as u64).add_to(line)
     }
 }
 

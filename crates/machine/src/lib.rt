@@ -58,9 +58,7 @@ pub trait Machine: Chip {
         if c == t {
             return Err(MachineFault::NotCoupled);
         }
-        let Some(k) = self.joins(c, t) else {
-            return Err(MachineFault::NotCoupled);
-        };
+        let k = self.joins(c, t).ok_or(MachineFault::NotCoupled)?;
         if !self.serves(k)? {
             return Err(MachineFault::NotCoupled);
         }

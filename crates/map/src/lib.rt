@@ -31,6 +31,7 @@ impl MappedChip {
             return Err(ChipFault::WrongLength);
         };
         let places = *n as usize;
+        // Kept: what the file says is this sum; through `from_le_bytes` the proof would need a lemma more.
         let m = *low as usize + 256 * *high as usize;
         if places == 0 || places > 64 || m > MOST {
             return Err(ChipFault::SizeOffLimits);

@@ -80,6 +80,7 @@ impl<C: Chip> Machine for TableMachine<C> {
         Ok(*word & all_below(n))
     }
 
+    // Kept: `serves`, `set` and `into_chip` are a line each over this machine's own fields; a trait for the fields would be longer.
     fn serves(&self, k: usize) -> Result<bool, MachineFault> {
         self.service.serves(&self.chip, k)
     }

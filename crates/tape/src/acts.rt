@@ -9,6 +9,7 @@ use chip::on_chip::OnChip;
 use machine::Machine;
 use machine::fault::MachineFault;
 use machine::marks::Marks;
+use parity::sets::entry_of;
 use parity::{fresh_words, replay_entries};
 use std::alloc::Global;
 
@@ -77,7 +78,7 @@ impl<C: Chip> TapeMachine<C> {
         ensures chip { self.new.chip ≡ self.old.chip }
         ensures service { self.new.service ≡ self.old.service }
     {
-        self.tape.push_reserved((64 * c + t) as u16);
+        self.tape.push_reserved(entry_of(c, t));
     }
 }
 
@@ -103,6 +104,7 @@ impl<C: Chip> Machine for TapeMachine<C> {
             .ok_or(MachineFault::PlaceOutOfRange)
     }
 
+    // Kept: `serves`, `set` and `into_chip` are a line each over this machine's own fields; a trait for the fields would be longer.
     fn serves(&self, k: usize) -> Result<bool, MachineFault> {
         self.service.serves(&self.chip, k)
     }
