@@ -77,9 +77,7 @@ fn give(
     ensures told { Told graph.now.rows.now graph.now.live result.0 }
     ensures given { Given graph.now.rows.now graph.now.live w result.0 wanted.old wanted.new duals.old duals.new out.old out.new at result.1 }
 {
-    let Some(start) = lowest(wanted[w]) else {
-        unreachable()
-    };
+    let start = lowest(wanted[w]).unwrap();
     let island = graph.island_of(start);
     if all_single_on(island, wanted) {
         return (start, at);

@@ -95,9 +95,7 @@ fn give_from<M: Machine>(
     requires { filled slots.old slot ≡ true }
     ensures { GivesFrom (state session.old (M.Chip.layout machine.old) (M.Machine.meaning machine.old)) slots.old slot result (state session.new (M.Chip.layout machine.new) (M.Machine.meaning machine.new)) slots.new }
 {
-    let Some(pass) = slots[slot].take() else {
-        unreachable()
-    };
+    let pass = slots[slot].take().unwrap();
     match session.give_back(machine, pass) {
         Ok(()) => Ok(Outcome::Obeyed),
         Err((fault, back)) => {
@@ -118,9 +116,7 @@ fn write_from<M: Machine>(
     requires { filled slots.old slot ≡ true }
     ensures { WritesFrom (state session.old (M.Chip.layout machine.now) (M.Machine.meaning machine.now)) slots.old slot result (state session.new (M.Chip.layout machine.now) (M.Machine.meaning machine.now)) slots.new }
 {
-    let Some(pass) = slots[slot].take() else {
-        unreachable()
-    };
+    let pass = slots[slot].take().unwrap();
     match session.write_off(machine, pass) {
         Ok(()) => Ok(Outcome::Obeyed),
         Err((fault, pass)) => {

@@ -66,10 +66,7 @@ impl Session {
         requires { length (places_of places) ≡ length (words_of self.old.block) }
         ensures { view self.new ≡ begun (view self.old) (places_of places) }
     {
-        let Some(block) = Block::new(self.block.wires()) else {
-            unreachable()
-        };
-        self.block = block;
+        self.block = Block::new(self.block.wires()).unwrap();
         self.places = places;
     }
 }

@@ -28,12 +28,8 @@ impl Session {
         ensures { Starts (M.Chip.layout machine.now).places number records.items.items (view result) }
     {
         let n = machine.width();
-        let Some(block) = Block::new(n) else {
-            unreachable()
-        };
-        let Some(places) = Places::new(n) else {
-            unreachable()
-        };
+        let block = Block::new(n).unwrap();
+        let places = Places::new(n).unwrap();
         Session {
             number,
             block,
