@@ -21,7 +21,7 @@ pub fn close<M: Machine>(mut session: Session, machine: &M, mut slots: Vec<Optio
 }
 
 // Writes off the pass of each slot, from the last, and answers how many there were.
-// Kept: session and machine come apart, here and below, since a session holds no machine.
+// Kept: session and machine come apart, here and in all that it calls, since a session holds no machine.
 fn end_all<M: Machine>(session: &mut Session, machine: &M, slots: &mut Vec<Option<Pass>>) -> usize
     requires { Good (state session.old (M.Chip.layout machine.now) (M.Machine.meaning machine.now)) slots.old.items }
     ensures passes { result ≡ filled_count slots.old.items }

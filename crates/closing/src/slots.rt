@@ -13,7 +13,7 @@ pub fn empty_slots(heap: Global, n: usize) -> Result<Vec<Option<Pass>>, AllocErr
     Ok(slots)
 }
 
-// Kept: `collect` drops what it has made when memory ends, and the check lets nothing drop a pass.
+// `collect` would drop what it has made when memory ends, and the check lets nothing drop a pass.
 fn add_empty(slots: &mut Vec<Option<Pass>>, n: usize)
     requires { (slots.old.items ≡ []) × (n ≤ vec_capacity slots.old) }
     ensures { slots.new.items ≡ replicate n None }

@@ -17,7 +17,7 @@ pub enum AnyChip {
 }
 
 impl AnyChip {
-    // Kept: Clone is not derived, as a mapped chip has none.
+    // Kept: Clone is not derived, as a mapped chip has none: a copy of it may find no memory.
     // A second chip of the same layout. Only a chip that was read from a map asks for memory.
     pub fn duplicate(&self, heap: Global) -> Result<AnyChip, ChipFault>
         ensures same_layout { MatchResult result (λ c. any_layout c ≡ any_layout self.now) (λ f. f ≡ OutOfMemory) }
@@ -30,7 +30,7 @@ impl AnyChip {
     }
 }
 
-// Kept: a `dyn Chip` may not be handed out, and a generic enum of two would not name its kinds.
+// Kept: with each match below, as a `dyn Chip` may not be handed out, and a generic enum of two would not name its kinds.
 impl Chip for AnyChip {
     ghost layout = { any_layout };
 

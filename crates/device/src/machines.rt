@@ -29,7 +29,7 @@ impl OnChip for AnyMachine {
     }
 }
 
-// Kept: a `dyn Machine` may not be handed out, and a generic enum of two would not name its kinds.
+// Kept: with each match below, as a `dyn Machine` may not be handed out, and a generic enum of two would not name its kinds.
 impl Machine for AnyMachine {
     ghost meaning = { any_meaning };
 

@@ -40,7 +40,6 @@ impl LiveGraph<'_> {
 
     // Writes the island of root as a tree, breadth first: its places into order, the root first, and the parent
     // of each other place into parent. Returns how many places there are.
-    // Kept: arrays of the caller's with their length beside them, since a list of the library's would need a heap.
     pub fn tree_order(&self, root: usize, order: &mut [usize], parent: &mut [usize]) -> usize
         requires inside { root < length self.now.rows.now }
         requires room { (length self.now.rows.now ≤ length order.old) × (length self.now.rows.now ≤ length parent.old) }
@@ -52,7 +51,6 @@ impl LiveGraph<'_> {
         order[0] = root;
         let mut n = 1;
         let mut head = 0;
-        // Kept: the order grows while it is walked, and a queue of the library would need a heap.
         while head < n {
             let q = order[head];
             match lowest(without(self.rows[q] & self.live, seen)) {
@@ -69,7 +67,7 @@ impl LiveGraph<'_> {
 
     // Brings the set `word` to root, along neighbours inside live. Writes the gates into out from `at` on,
     // and returns where they end.
-    // Kept: one buffer takes all gates, and the contracts say where in it those of each call begin and end.
+    // Kept: the contracts say between which places of the one buffer the gates of each call lie, so a writer of both would be taken apart.
     pub fn bring(&self, root: usize, word: u64, out: &mut [u16], at: usize) -> usize
         requires inside { root < length self.now.rows.now }
         requires some { word ≢ 0 }
@@ -93,7 +91,7 @@ impl LiveGraph<'_> {
 
 // Gathers the set `word` into the root of a tree, from the last place of the order up.
 // Writes the gates into out from `at` on, and returns where they end.
-// Kept: the place in the buffer stays beside the buffer, as in `bring`.
+// Kept: the contract says between which places of the one buffer the gates lie, so a writer of both would be taken apart.
 pub fn gather(order: &[usize], parent: &[usize], word: u64, out: &mut [u16], at: usize) -> usize
     requires some { (0 < length order.now) × (word ≢ 0) }
     requires places { (PlacesBelow order.now (length parent.now)) × (length parent.now ≤ 64) }
@@ -116,7 +114,7 @@ pub fn gather(order: &[usize], parent: &[usize], word: u64, out: &mut [u16], at:
 
 // Clears place u of the set x through its neighbour p. Writes the gates into out from k on,
 // and returns what is left of the set and where the gates end.
-// Kept: the place in the buffer stays beside the buffer, as in `bring`.
+// Kept: the contract says between which places of the one buffer the gates lie, so a writer of both would be taken apart.
 fn settle(u: usize, p: usize, x: u64, out: &mut [u16], k: usize) -> (u64, usize)
     requires places { (u < 64) × (p < 64) }
     requires apart { u ≢ p }

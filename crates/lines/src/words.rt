@@ -14,7 +14,7 @@ pub fn words_line<M: Machine>(heap: Global, machine: &M) -> Result<String, Refus
     ensures { MatchResult result (λ line. string_bytes line ≡ words_text (M.Machine.meaning machine.now).words) (λ f. f ≡ OutOfMemory) }
 {
     let mut line = String::from_str(heap, "words")?;
-    // Kept: a proof knows nothing of what a closure has added to a line, so this is a loop over the places and no `try_for_each`.
+    // a proof knows nothing of what a closure has added to a line, so this is a loop and no `try_for_each`
     for q in 0..machine.width() {
         word_at(machine, q).add_to(&mut line)?;
     }

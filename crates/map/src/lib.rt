@@ -48,7 +48,7 @@ impl MappedChip {
     }
 
     // A second chip of the same layout.
-    // Kept: Clone is not derived over a ghost field, and by hand it would be no shorter.
+    // Kept: over a ghost field Clone is derived only with Copy, and by hand it would be no shorter.
     pub fn duplicate(&self, heap: Global) -> Result<MappedChip, ChipFault>
         ensures { MatchResult result (λ c. layout_of c ≡ layout_of self.now) (λ f. f ≡ OutOfMemory) }
     {

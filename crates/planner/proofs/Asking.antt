@@ -23,4 +23,3 @@ module _ (n : ℕ) (b : Block) (p : Places) (s : SizesAre n b p) where
 
   pub placed : Placement n (places_of p)
   placed = subst (λ (m : ℕ). Placement m (places_of p)) s.1 p.placed
-

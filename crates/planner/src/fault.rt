@@ -76,7 +76,7 @@ impl PlanFault {
     }
 }
 
-// Kept: as for `WireFault`.
+// Kept: clauses say what is written, and thiserror's derive promises nothing of its text.
 impl fmt::Display for PlanFault {
     ghost output = { λ f. Some (plan_text f) };
 

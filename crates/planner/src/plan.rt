@@ -22,7 +22,7 @@ pub struct Planned {
 
 // Writes gates between neighbours to the front of out, each as 64 x control + target, that bring each word of the block
 // to a place of its own. Refused, nothing is touched.
-// Kept: the block and the placement come apart, since two sizes that differ are a refusal of this call.
+// Kept: block and placement come apart, here and in `plan_on`, since two sizes that differ are a refusal of these calls.
 pub fn plan(
     adjacency: &Adjacency,
     block: &Block,

@@ -51,7 +51,7 @@ pub enum Reply {
     },
 }
 
-// Kept: as for `Refusal`.
+// Kept: the kit's derive writes `From` and `Display` with no contract, and here clauses say what each gives.
 impl fmt::Display for Reply {
     ghost output = { λ r. Some (reply_text r) };
 

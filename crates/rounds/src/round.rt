@@ -14,8 +14,7 @@ use parity::sets::{acted, ends_of, entry_of};
 
 // Brings the wanted set of the wire w to r, along edges inside live, and then its dual, as far as it lies on the island of r,
 // with control and target exchanged. Writes the gates into out from `at` on, and returns where they end.
-// Kept: the sets and their duals change roles halfway, so a pair of them would be taken apart at once. The contract says where
-// in the one buffer the gates begin and end.
+// Kept: sets and duals change roles halfway, and the contract says where in the buffer the gates lie: pairs would be taken apart.
 pub fn bring_both(
     graph: &LiveGraph<'_>,
     w: usize,

@@ -13,8 +13,8 @@ use session::store::Session;
 use session_fault::SessionFault;
 
 // Makes the call that the order asks for, if its slot allows one, and answers what came of it.
-// Kept: session, machine, slots and buffer come apart, here and in `run`, since each call borrows only some of them. Each order
-// has its own arguments and call, so this is a match and no table of closures.
+// Kept: session, machine, slots and buffer come apart, here and in `run`: callers have them apart, and a struct would borrow all four.
+// Kept: each order has its own arguments and call, so this is a match and no table of closures.
 pub fn act<M: Machine>(
     session: &mut Session,
     machine: &mut M,
@@ -105,8 +105,7 @@ fn give_from<M: Machine>(
     }
 }
 
-// Kept: alike to `give_from`, but for a call that only reads the machine. A closure for the call would write the session through
-// a capture, of which a proof knows nothing afterwards.
+// Kept: alike to `give_from`, but the machine is only read; shared by a closure, the contract would say what any such call promises.
 fn write_from<M: Machine>(
     session: &mut Session,
     machine: &M,
