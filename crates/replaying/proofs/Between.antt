@@ -23,11 +23,13 @@ numbered ws q h = let e : 0 + q ≡ q = omega arith in get_or-enumerate_from 0 w
 pub first_numbered : (ws : List ℕ) (r : Option ℕ) (P : ℕ → ℕ → Type 0)
     → MatchOption r (AllWithin (λ (e : ℕ × ℕ). P e.0 e.1) (enumerate_from 0 ws) 0 (length (enumerate_from 0 ws)))
     (λ i. (i < length (enumerate_from 0 ws)) × HoldsAt (λ (e : ℕ × ℕ). P e.0 e.1 → ⊥) (enumerate_from 0 ws) i × AllWithin (λ (e : ℕ × ℕ). P e.0 e.1) (enumerate_from 0 ws) 0 i)
-    → MatchOption r ((q : ℕ) → q < length ws → P q (get_or ws q 0)) (λ q. (q < length ws) × (P q (get_or ws q 0) → ⊥))
+    → MatchOption r ((q : ℕ) → q < length ws → P q (get_or ws q 0)) (λ q. (q < length ws) × (P q (get_or ws q 0) → ⊥) × ((p : ℕ) → p < q → P p (get_or ws p 0)))
 first_numbered ws None P all = λ q h.
     let len = length-enumerate_from 0 ws in
     subst (λ (e : ℕ × ℕ). P e.0 e.1) (numbered ws q h) (all q (0, 0) (omega arith) (omega arith))
 first_numbered ws (Some q) P (low, holds, before) =
     let len = length-enumerate_from 0 ws in
     let h : q < length ws = omega arith in
-    (h, subst (λ (e : ℕ × ℕ). P e.0 e.1 → ⊥) (numbered ws q h) (holds (0, 0)))
+    (h, subst (λ (e : ℕ × ℕ). P e.0 e.1 → ⊥) (numbered ws q h) (holds (0, 0)), λ p less.
+      let there : p < length ws = omega arith in
+        subst (λ (e : ℕ × ℕ). P e.0 e.1) (numbered ws p there) (before p (0, 0) (omega arith) less))
