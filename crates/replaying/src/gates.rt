@@ -1,8 +1,8 @@
 // Gates on a machine's couplers, replayed on words of their own.
-ghost use Rattle.std.specs.Prelude.{◌≡◌, ◌↔◌, map, Contains, IsTrue, MatchOption, MatchResult};
+ghost use Rattle.std.specs.Prelude.{◌≡◌, ◌↔◌, map, IsTrue, MatchOption, MatchResult};
 ghost use Rattle.machine.specs.OnCoupler.{OnCoupler, OnCouplers};
 ghost use Rattle.parity.specs.Words.{fresh, gate_of, replay};
-ghost use Rattle.replaying.specs.Gates.{ServesBetween};
+ghost use Rattle.replaying.specs.Gates.{IsFirstOff, ServesBetween};
 
 use crate::words::add;
 use chip::Chip;
@@ -28,7 +28,7 @@ fn serves_between<M: Machine>(machine: &M, k: usize, a: usize, b: usize) -> bool
 
 // What the gates leave at each place, or the first gate that is on no coupler in service.
 pub fn replayed<M: Machine>(machine: &M, gates: &[u16]) -> Result<[u64; 64], u16>
-    ensures { MatchResult result (λ words. OnCouplers (M.Chip.layout machine.now) (M.Machine.meaning machine.now).service (map gate_of gates.now) × (words ≡ replay (map gate_of gates.now) (fresh 64))) (λ gate. Contains gates.now gate × ¬ OnCoupler (M.Chip.layout machine.now) (M.Machine.meaning machine.now).service (gate_of gate)) }
+    ensures { MatchResult result (λ words. OnCouplers (M.Chip.layout machine.now) (M.Machine.meaning machine.now).service (map gate_of gates.now) × (words ≡ replay (map gate_of gates.now) (fresh 64))) (λ gate. IsFirstOff (M.Chip.layout machine.now) (M.Machine.meaning machine.now).service gates.now gate) }
 {
     let mut words = fresh_words();
     for gate in gates {
