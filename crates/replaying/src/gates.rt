@@ -5,9 +5,10 @@ ghost use Rattle.parity.specs.Words.{fresh, gate_of, replay};
 ghost use Rattle.replaying.specs.Gates.{IsFirstOff, ServesBetween};
 
 use crate::words::add;
-use chip::Chip;
+use chip::{Chip, meets};
 use machine::Machine;
 use parity::fresh_words;
+use parity::sets::ends_of;
 
 // The first coupler in service that joins the two places, if one does.
 pub fn coupler_between<M: Machine>(machine: &M, a: usize, b: usize) -> Option<usize>
@@ -20,10 +21,10 @@ pub fn coupler_between<M: Machine>(machine: &M, a: usize, b: usize) -> Option<us
 fn serves_between<M: Machine>(machine: &M, k: usize, a: usize, b: usize) -> bool
     ensures { IsTrue result ↔ ServesBetween (M.Chip.layout machine.now) (M.Machine.meaning machine.now).service a b k }
 {
-    let (Ok(true), Ok((left, right))) = (machine.serves(k), machine.ends(k)) else {
+    let (Ok(true), Ok(ends)) = (machine.serves(k), machine.ends(k)) else {
         return false;
     };
-    (left == a && right == b) || (left == b && right == a)
+    meets((a, b), ends)
 }
 
 // What the gates leave at each place, or the first gate that is on no coupler in service.
@@ -32,7 +33,7 @@ pub fn replayed<M: Machine>(machine: &M, gates: &[u16]) -> Result<[u64; 64], u16
 {
     let mut words = fresh_words();
     for gate in gates {
-        let (control, target) = (usize::from(*gate / 64), usize::from(*gate % 64));
+        let (control, target) = ends_of(*gate);
         let _ = coupler_between(machine, control, target).ok_or(*gate)?;
         add(&mut words, control, target).ok_or(*gate)?;
     }

@@ -4,6 +4,7 @@ ghost use Rattle.parity.specs.Sets.{bit};
 ghost use Rattle.replaying.specs.Islands.{AllNamed, HasPlace, NamesIslands, places_below, renamed};
 
 use chip::Chip;
+use parity::sets::has;
 use std::array;
 
 // For each of 64 places the name of its island: two places have one name exactly when they hang together.
@@ -79,12 +80,4 @@ fn all_named(set: u64, names: &[usize; 64], name: usize) -> bool
         .iter()
         .enumerate()
         .all(|(q, other)| !has(set, q) || *other == name)
-}
-
-// Whether a place is in a set.
-fn has(set: u64, place: usize) -> bool
-    requires { place < 64 }
-    ensures { IsTrue result ↔ (bit set place ≡ 1) }
-{
-    (set >> place) % 2 == 1
 }
