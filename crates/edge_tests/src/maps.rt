@@ -3,6 +3,7 @@ use chip::Chip;
 use chip::fault::ChipFault;
 use map::MappedChip;
 use std::alloc::{AllocError, Global};
+use std::array;
 use std::process::Abort;
 use std::test::Fail;
 
@@ -130,16 +131,12 @@ fn a_size_is_refused_before_a_length(rt: HostRuntime) {
 // A file of 64 places and 256 couplers, the last one given: any other coupler k joins place k % 64
 // to the place 1 + k / 64 steps on, round the ring of places.
 fn full_file(heap: Global, last: (u8, u8)) -> Result<Vec<u8>, AllocError> {
-    let (left, right) = last;
+    let mut lefts: [u8; 256] = array::from_fn(|k| (k % 64) as u8);
+    let mut rights: [u8; 256] = array::from_fn(|k| ((k % 64 + k / 64 + 1) % 64) as u8);
+    (lefts[255], rights[255]) = last;
     let mut file = vec![in heap; 64, 0, 1]?;
-    for k in 0u8..255 {
-        file.push(k % 64)?;
-    }
-    file.push(left)?;
-    for k in 0u8..255 {
-        file.push((k % 64 + k / 64 + 1) % 64)?;
-    }
-    file.push(right)?;
+    file.extend_from_slice(&lefts)?;
+    file.extend_from_slice(&rights)?;
     Ok(file)
 }
 

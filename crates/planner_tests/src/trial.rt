@@ -7,11 +7,11 @@ use planner::plan::{Planned, plan};
 use planner::store::{Adjacency, Block, Places};
 use random::Random;
 use replaying::gates::replayed;
-use replaying::islands::{islands, on_one_island, places_of};
+use replaying::islands::{all_on_one_island, islands, places_of};
 use replaying::words::{all_single, most_gates};
+use std::fmt;
 use std::process::Abort;
 use std::test::*;
-use std::{array, fmt};
 
 // The most gates that a plan for 64 places may have, and two more.
 pub(crate) const BUFFER: usize = 8066;
@@ -115,13 +115,13 @@ impl<'a, R: Abort, M: Machine> Trial<'a, R, M> {
 
     // Whether each word has its places on one island.
     fn is_reachable(&self, words: &[u64], at: &[usize]) -> Result<bool, Fail> {
-        let service: [bool; 256] = array::from_fn(|k| self.machine.serves(k) == Ok(true));
+        let mut service = [false; 256];
+        let couplers = self.machine.couplers();
+        for (k, serves) in service.iter_mut().enumerate().take(couplers) {
+            *serves = self.machine.serves(k)?;
+        }
         let islands = islands(self.machine, &service);
-        let reachable = words.iter().try_fold(true, |reachable, word| {
-            let set = places_of(*word, at)?;
-            Some(reachable && on_one_island(set, &islands))
-        });
-        Ok(reachable.ok_or("no such wire")?)
+        Ok(all_on_one_island(words, at, &islands).ok_or("no such wire")?)
     }
 
     // Checks a plan: its length, its gates, its placement, and that nothing else is written.

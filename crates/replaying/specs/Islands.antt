@@ -22,9 +22,17 @@ renamed name other x = cond (x == other) name x
 abbrev pub AllNamed : ℕ → List ℕ → ℕ → Type 0
 AllNamed set names name = (q : ℕ) → q < 64 → bit set q ≡ 1 → slice_index names q ≡ name
 
+-- the places in the set all have one name
+abbrev pub OnOneIsland : List ℕ → ℕ → Type 0
+OnOneIsland names set = (p : ℕ) → p < 64 → bit set p ≡ 1 → AllNamed set names (slice_index names p)
+
 -- the wire has one of 64 places
 abbrev pub HasPlace : List ℕ → ℕ → Type 0
 HasPlace at w = (w < length at) × (slice_index at w < 64)
+
+-- each wire in the word has one of 64 places
+abbrev pub HavePlaces : List ℕ → ℕ → Type 0
+HavePlaces at word = (w : ℕ) → w < 64 → bit word w ≡ 1 → HasPlace at w
 
 -- the places of the wires below n that are in the word
 unfoldable pub places_below : List ℕ → ℕ → ℕ → ℕ

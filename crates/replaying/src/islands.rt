@@ -1,9 +1,10 @@
 // Which places hang together over couplers in service.
-ghost use Rattle.std.specs.Prelude.{◌≡◌, ℕ, ◌^◌, ◌<◌, ◌↔◌, IsTrue, IsSome, IfSome, MatchOption, slice_index};
+ghost use Rattle.std.specs.Prelude.{◌≡◌, ℕ, ◌^◌, ◌<◌, ◌↔◌, All, IsTrue, IsSome, IfSome, MatchOption, slice_index};
 ghost use Rattle.parity.specs.Sets.{bit};
-ghost use Rattle.replaying.specs.Islands.{AllNamed, HasPlace, NamesIslands, places_below, renamed};
+ghost use Rattle.replaying.specs.Islands.{AllNamed, HasPlace, HavePlaces, OnOneIsland, NamesIslands, places_below, renamed};
 
 use chip::Chip;
+use parity::sets::has;
 use std::array;
 
 // For each of 64 places the name of its island: two places have one name exactly when they hang together.
@@ -41,7 +42,7 @@ fn renamed(name: usize, other: usize, at: usize) -> usize
 // The places of the wires in a word, if each has one of 64.
 // Kept: a wire of the word with no place is refused, so the wires are gone through and not the places.
 pub fn places_of(word: u64, at: &[usize]) -> Option<u64>
-    ensures there { IsSome result ↔ ((w : ℕ) → w < 64 → bit word w ≡ 1 → HasPlace at.now w) }
+    ensures there { IsSome result ↔ HavePlaces at.now word }
     ensures places { IfSome result (λ places. places ≡ places_below at.now word 64) }
 {
     let mut places = 0;
@@ -63,12 +64,26 @@ fn place_of(at: &[usize], w: usize) -> Option<u64>
 
 // Whether the places of a set all have one name.
 pub fn on_one_island(set: u64, names: &[usize; 64]) -> bool
-    ensures { IsTrue result ↔ ((p : ℕ) → p < 64 → bit set p ≡ 1 → AllNamed set names.now (slice_index names.now p)) }
+    ensures { IsTrue result ↔ OnOneIsland names.now set }
 {
     names
         .iter()
         .enumerate()
         .all(|(p, name)| !has(set, p) || all_named(set, names, *name))
+}
+
+// Whether each word has the places of its wires on one island, if each of its wires has one of 64.
+// Kept: a wire with no place is refused wherever it stands, so no word may be passed over, as `all` would.
+pub fn all_on_one_island(words: &[u64], at: &[usize], names: &[usize; 64]) -> Option<bool>
+    ensures there { IsSome result ↔ All (HavePlaces at.now) words.now }
+    ensures reachable { IfSome result (λ reachable. IsTrue reachable ↔ All (λ word. OnOneIsland names.now (places_below at.now word 64)) words.now) }
+{
+    let mut reachable = true;
+    for word in words {
+        let set = places_of(*word, at)?;
+        reachable = reachable && on_one_island(set, names);
+    }
+    Some(reachable)
 }
 
 // Whether each place of a set has the name.
@@ -79,12 +94,4 @@ fn all_named(set: u64, names: &[usize; 64], name: usize) -> bool
         .iter()
         .enumerate()
         .all(|(q, other)| !has(set, q) || *other == name)
-}
-
-// Whether a place is in a set.
-fn has(set: u64, place: usize) -> bool
-    requires { place < 64 }
-    ensures { IsTrue result ↔ (bit set place ≡ 1) }
-{
-    (set >> place) % 2 == 1
 }

@@ -1,7 +1,7 @@
 // The words of 64 wires or places.
 ghost use Rattle.std.specs.Prelude.{◌≡◌, ℕ, slice_index, ◌-◌, ◌*◌, ◌^◌, ◌<◌, ◌≤◌, ◌↔◌, length, All, IsTrue, MatchOption, IsSome, swap, count_ones};
 ghost use Rattle.parity.specs.Words.{cnot};
-ghost use Rattle.replaying.specs.Words.{HasWord};
+ghost use Rattle.replaying.specs.Words.{HasWord, HasWordsBelow};
 
 use machine::Machine;
 
@@ -45,7 +45,7 @@ pub fn most_gates(n: usize) -> Option<usize>
 
 // The first place, of those that words are given for, where the machine has another word or is no place.
 pub fn first_other_word<M: Machine>(machine: &M, words: &[u64]) -> Option<usize>
-    ensures { MatchOption result ((q : ℕ) → q < length words.now → HasWord (M.Chip.layout machine.now) (M.Machine.meaning machine.now) q (slice_index words.now q)) (λ q. (q < length words.now) × ¬ HasWord (M.Chip.layout machine.now) (M.Machine.meaning machine.now) q (slice_index words.now q)) }
+    ensures { MatchOption result (HasWordsBelow (M.Chip.layout machine.now) (M.Machine.meaning machine.now) words.now (length words.now)) (λ q. (q < length words.now) × ¬ HasWord (M.Chip.layout machine.now) (M.Machine.meaning machine.now) q (slice_index words.now q) × HasWordsBelow (M.Chip.layout machine.now) (M.Machine.meaning machine.now) words.now q) }
 {
     words
         .iter()

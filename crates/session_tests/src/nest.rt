@@ -227,7 +227,9 @@ impl<'a, R: Abort> Run<'a, R> {
 // Whether the places of the two wires hang together.
 fn on_one(session: &Session, islands: &[usize; 64], pair: Option<(usize, usize)>) -> bool {
     pair.is_none_or(|(a, b)| match (session.place(a), session.place(b)) {
-        (Ok(p), Ok(q)) => islands.get(p) == islands.get(q),
+        (Ok(p), Ok(q)) => islands
+            .get(p)
+            .is_some_and(|name| islands.get(q) == Some(name)),
         _ => false,
     })
 }

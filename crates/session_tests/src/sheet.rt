@@ -3,7 +3,7 @@ use chip::Chip;
 use machine::Machine;
 use machine::fault::MachineFault;
 use parity::fresh_words;
-use replaying::islands::{islands, on_one_island, places_of};
+use replaying::islands::{all_on_one_island, islands};
 use replaying::words::{add, all_single, exchange};
 use session::store::Session;
 use session_fault::SessionFault;
@@ -115,15 +115,14 @@ impl Sheet {
         session: &Session,
         machine: &M,
     ) -> Result<bool, Fail> {
-        let islands = self.islands(machine);
-        // no word has a wire that the session does not have
-        let places: [usize; 64] = array::from_fn(|w| session.place(w).unwrap_or(w));
-        let mut words = self.block.iter().take(session.wires());
-        let reachable = words.try_fold(true, |reachable, word| {
-            let set = places_of(*word, &places)?;
-            Some(reachable && on_one_island(set, &islands))
-        });
-        Ok(reachable.ok_or("no such wire")?)
+        let (wires, islands) = (session.wires(), self.islands(machine));
+        let mut places = [0; 64];
+        for (w, place) in places.iter_mut().enumerate().take(wires) {
+            *place = session.place(w)?;
+        }
+        let words = self.block.get(..wires).ok_or("too many wires")?;
+        let at = places.get(..wires).ok_or("too many wires")?;
+        Ok(all_on_one_island(words, at, &islands).ok_or("no such wire")?)
     }
 
     // Checks that each wire's place carries what the sheet says, and that the couplers serve as the sheet says.
