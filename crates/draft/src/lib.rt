@@ -49,9 +49,7 @@ impl Draft {
         ensures file { IfOk result (λ file. file.items ≡ map_file places self.now) }
         ensures too_many { IsErrOf result DraftFault.TooManyCouplers ↔ (2 ^ 16 ≤ length self.now) }
     {
-        let Ok(couplers) = u16::try_from(self.couplers.len()) else {
-            return Err(DraftFault::TooManyCouplers);
-        };
+        let couplers = u16::try_from(self.couplers.len()).map_err(|_| DraftFault::TooManyCouplers)?;
         let [low, high] = couplers.to_le_bytes();
         let left: Vec<u8> = self.couplers.iter().map(|ends| ends.0).collect(heap)?;
         let right: Vec<u8> = self.couplers.iter().map(|ends| ends.1).collect(heap)?;
