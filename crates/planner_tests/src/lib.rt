@@ -1,4 +1,4 @@
-// The planner on chips of many forms and random blocks, each plan replayed by code of its own.
+// The planner on chips of many forms and random blocks, each plan replayed on plain words.
 #![tactic(auto)]
 
 #[cfg(test)]
