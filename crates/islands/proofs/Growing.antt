@@ -1,8 +1,10 @@
 -- A tree order while it grows: n places are listed, and the neighbours of the first `head` of them are all seen.
-use Rattle.std.proofs.Common.{◌≡◌, ℕ, zero, suc, ◌+◌, ◌^◌, ◌<◌, ◌≤◌, ◌≢◌, ◌⊎◌, List, length, get_or, set, sym, ap, ◌∙◌, subst, inl, inr, not-suc-le-zero, zero-lt-suc, arith}
+use Rattle.std.proofs.Common.{◌≡◌, ℕ, zero, suc, ◌+◌, ◌^◌, ◌<◌, ◌≤◌, ◌≢◌, ◌⊎◌, List, [], ◌∷◌, ◌++◌, length, get_or, set, refl, sym, ap, ◌∙◌, subst, inl, inr, not-suc-le-zero, zero-lt-suc, arith}
 use lib.Bits.{bit_and, bit_xor, xor_lt}
 use lib.Pow.{pow-lt}
 use lib.Count.{ones, ones-le}
+use lib.ListN.{get_or-append}
+use lib.Seq.{get_or-append_seam}
 use Rattle.std.proofs.lemmas.List.{get_or-set_same, get_or-set_other}
 use Rattle.std.proofs.lemmas.Bool.{cases_lt}
 use Rattle.parity.specs.Sets.{bit}
@@ -32,18 +34,16 @@ growing_below {adj} {order = order} {seen = seen} g i l = place_below (length ad
 one_low : (n : ℕ) → n < 1 → n ≡ 0
 one_low n h = omega arith
 
-pub growing_start : (adj : List ℕ) (live root : ℕ) (order parent : List ℕ) (seen : ℕ) → seen ≡ 2 ^ root → root < length adj → 0 < length order
-    → Growing adj live root (set order 0 root) parent seen 1 0
-growing_start adj live root order parent seen e lt ho =
-    let f : get_or (set order 0 root) 0 0 ≡ root = get_or-set_same order 0 root 0 ho in
+pub growing_start : (adj : List ℕ) (live root : ℕ) (parent : List ℕ) (seen : ℕ) → seen ≡ 2 ^ root → root < length adj
+    → Growing adj live root (root ∷ []) parent seen 1 0
+growing_start adj live root parent seen e lt =
     record {
       some = omega arith;
-      first = f;
+      first = refl;
       counted = ap ones e ∙ ones_pow root;
       low = subst (λ (x : ℕ). x < 2 ^ length adj) (sym e) (pow-lt lt);
-      listed = λ i h. ap (λ (m : ℕ). bit seen (get_or (set order 0 root) m 0)) (one_low i h) ∙ ap (bit seen) f
-          ∙ ap (λ (x : ℕ). bit x root) e ∙ bit_pow_same root;
-      within = λ q o. (0, omega arith, f ∙ place_is root q (ap (λ (x : ℕ). bit x q) (sym e) ∙ o));
+      listed = λ i h. ap (λ (m : ℕ). bit seen (get_or (root ∷ []) m 0)) (one_low i h) ∙ ap (λ (x : ℕ). bit x root) e ∙ bit_pow_same root;
+      within = λ q o. (0, omega arith, place_is root q (ap (λ (x : ℕ). bit x q) (sym e) ∙ o));
       children = λ i i0 h. absurd (omega arith);
       once = λ i j hi hj _. one_low i hi ∙ sym (one_low j hj);
       closed = λ i r h. absurd (not-suc-le-zero h);
@@ -96,12 +96,12 @@ growing_room {adj} {seen = seen} {n = n} g {r = r} next =
     omega arith
 
 module _ {adj : List ℕ} {live root : ℕ} {order parent : List ℕ} {seen n head : ℕ} (g : Growing adj live root order parent seen n head)
-    {r : ℕ} (next : Next adj live seen (get_or order head 0) r) (hn : head < n) (ho : n < length order) (hp : r < length parent) where
-  old : (i : ℕ) → i < n → get_or (set order n r) i 0 ≡ get_or order i 0
-  old i h = let ne : i ≢ n = λ e. (omega arith) in get_or-set_other order n i r 0 ne
+    {r : ℕ} (next : Next adj live seen (get_or order head 0) r) (hn : head < n) (ho : length order ≡ n) (hp : r < length parent) where
+  old : (i : ℕ) → i < n → get_or (order ++ r ∷ []) i 0 ≡ get_or order i 0
+  old i h = get_or-append order (r ∷ []) 0 i (omega arith)
 
-  new : get_or (set order n r) n 0 ≡ r
-  new = get_or-set_same order n r 0 ho
+  new : get_or (order ++ r ∷ []) n 0 ≡ r
+  new = ap (λ (m : ℕ). get_or (order ++ r ∷ []) m 0) (sym ho) ∙ get_or-append_seam order r [] 0
 
   other : (i : ℕ) → i < n → get_or order i 0 ≢ r
   other i h e = zero_one (bit seen r) next.unseen (ap (bit seen) (sym e) ∙ g.listed i h)
@@ -119,7 +119,7 @@ module _ {adj : List ℕ} {live root : ℕ} {order parent : List ℕ} {seen n he
   split i h = elim (cases_lt i n) [ inl l ↦ inl l | inr k ↦ inr (omega arith) ]
 
   child_old : (i : ℕ) → i < n → (u : ℕ) → u ≢ r → Child adj live order parent i u
-      → Child adj live (set order n r) (set parent r (get_or order head 0)) i u
+      → Child adj live (order ++ r ∷ []) (set parent r (get_or order head 0)) i u
   child_old i h u ne c =
       record {
         up = (c.up.0, c.up.1, (let l : c.up.0 < n = (let k : c.up.0 < i = c.up.1 in omega arith) in old c.up.0 l) ∙ c.up.2 ∙ sym (up_same u ne));
@@ -127,7 +127,7 @@ module _ {adj : List ℕ} {live root : ℕ} {order parent : List ℕ} {seen n he
         alive = c.alive;
       }
 
-  child_new : Child adj live (set order n r) (set parent r (get_or order head 0)) n r
+  child_new : Child adj live (order ++ r ∷ []) (set parent r (get_or order head 0)) n r
   child_new =
       record {
         up = (head, hn, old head hn ∙ sym up_new);
@@ -135,7 +135,7 @@ module _ {adj : List ℕ} {live root : ℕ} {order parent : List ℕ} {seen n he
         alive = next.alive;
       }
 
-  pub growing_add : Growing adj live root (set order n r) (set parent r (get_or order head 0)) (bit_xor seen (2 ^ r)) (n + 1) head
+  pub growing_add : Growing adj live root (order ++ r ∷ []) (set parent r (get_or order head 0)) (bit_xor seen (2 ^ r)) (n + 1) head
   growing_add =
       record {
         some = omega arith;
@@ -144,7 +144,7 @@ module _ {adj : List ℕ} {live root : ℕ} {order parent : List ℕ} {seen n he
         low = xor_lt (length adj) seen (2 ^ r) g.low (pow-lt next.below);
         listed = λ i h. elim (split i h) [
           | inl l ↦ ap (bit (bit_xor seen (2 ^ r))) (old i l) ∙ kept (get_or order i 0) (g.listed i l)
-          | inr e ↦ ap (λ (m : ℕ). bit (bit_xor seen (2 ^ r)) (get_or (set order n r) m 0)) e ∙ ap (bit (bit_xor seen (2 ^ r))) new ∙ flip_on seen r next.unseen
+          | inr e ↦ ap (λ (m : ℕ). bit (bit_xor seen (2 ^ r)) (get_or (order ++ r ∷ []) m 0)) e ∙ ap (bit (bit_xor seen (2 ^ r))) new ∙ flip_on seen r next.unseen
         ];
         within = λ q o. elim (flip_cases seen r q o) [
           | inl e ↦ (n, omega arith, new ∙ sym e)
@@ -152,10 +152,10 @@ module _ {adj : List ℕ} {live root : ℕ} {order parent : List ℕ} {seen n he
               let l : w.0 < n = w.1 in (w.0, omega arith, old w.0 l ∙ w.2)
         ];
         children = λ i i0 h. elim (split i h) [
-          | inl l ↦ subst (Child adj live (set order n r) (set parent r (get_or order head 0)) i) (sym (old i l))
+          | inl l ↦ subst (Child adj live (order ++ r ∷ []) (set parent r (get_or order head 0)) i) (sym (old i l))
               (child_old i l (get_or order i 0) (other i l) (g.children i i0 l))
-          | inr e ↦ subst (λ (m : ℕ). Child adj live (set order n r) (set parent r (get_or order head 0)) m (get_or (set order n r) m 0)) (sym e)
-              (subst (Child adj live (set order n r) (set parent r (get_or order head 0)) n) (sym new) child_new)
+          | inr e ↦ subst (λ (m : ℕ). Child adj live (order ++ r ∷ []) (set parent r (get_or order head 0)) m (get_or (order ++ r ∷ []) m 0)) (sym e)
+              (subst (Child adj live (order ++ r ∷ []) (set parent r (get_or order head 0)) n) (sym new) child_new)
         ];
         once = λ i j hi hj e. both i j (split i hi) (split j hj) e;
         closed = λ i q h a b.
@@ -163,10 +163,10 @@ module _ {adj : List ℕ} {live root : ℕ} {order parent : List ℕ} {seen n he
             kept q (g.closed i q h (ap (λ (p : ℕ). bit (get_or adj p 0) q) (sym (old i l)) ∙ a) b);
       }
     where
-      both : (i j : ℕ) → (i < n) ⊎ (i ≡ n) → (j < n) ⊎ (j ≡ n) → get_or (set order n r) i 0 ≡ get_or (set order n r) j 0 → i ≡ j
+      both : (i j : ℕ) → (i < n) ⊎ (i ≡ n) → (j < n) ⊎ (j ≡ n) → get_or (order ++ r ∷ []) i 0 ≡ get_or (order ++ r ∷ []) j 0 → i ≡ j
       both i j (inl a) (inl b) e = g.once i j a b (sym (old i a) ∙ e ∙ old j b)
-      both i j (inl a) (inr b) e = absurd (other i a (sym (old i a) ∙ e ∙ ap (λ (m : ℕ). get_or (set order n r) m 0) b ∙ new))
-      both i j (inr a) (inl b) e = absurd (other j b (sym (old j b) ∙ sym e ∙ ap (λ (m : ℕ). get_or (set order n r) m 0) a ∙ new))
+      both i j (inl a) (inr b) e = absurd (other i a (sym (old i a) ∙ e ∙ ap (λ (m : ℕ). get_or (order ++ r ∷ []) m 0) b ∙ new))
+      both i j (inr a) (inl b) e = absurd (other j b (sym (old j b) ∙ sym e ∙ ap (λ (m : ℕ). get_or (order ++ r ∷ []) m 0) a ∙ new))
       both i j (inr a) (inr b) e = a ∙ sym b
 
 -- ---- the end

@@ -1,7 +1,6 @@
 -- What a tree order gives.
-use Rattle.std.proofs.Common.{◌≡◌, ℕ, zero, suc, ◌-◌, ◌^◌, ◌<◌, ◌≤◌, ◌≢◌, List, length, get_or, take, sym, ap, ◌∙◌, subst, inl, inr, le_refl, not-suc-le-zero, zero-lt-suc, arith}
+use Rattle.std.proofs.Common.{◌≡◌, ℕ, zero, suc, ◌-◌, ◌^◌, ◌<◌, ◌≤◌, ◌≢◌, List, length, get_or, sym, ap, ◌∙◌, subst, inl, inr, le_refl, not-suc-le-zero, zero-lt-suc, arith}
 use lib.Bits.{bit_xor}
-use Rattle.std.proofs.lemmas.List.{get_or-take, length-take-le}
 use Rattle.parity.specs.Words.{Gate}
 use Rattle.parity.specs.Sets.{bit}
 use Rattle.parity.proofs.Bits.{flip_other}
@@ -45,71 +44,56 @@ module _ {adj : List ℕ} {live root : ℕ} {order parent : List ℕ} {n : ℕ} 
       ∙ all_live lr k (omega arith))
       n w.0 lt i)
 
-  -- ---- the part of the buffer that holds the order
+  -- ---- the whole order
 
-  module _ (h : n ≤ length order) where
-    pub order_length : length (take n order) ≡ n
-    order_length = length-take-le n order h
+  module _ (h : length order ≡ n) where
+    listed : (i : ℕ) → i < length order → i < n
+    listed i l = subst (λ (m : ℕ). i < m) h l
 
-    pub order_at : (i : ℕ) → i < length (take n order) → (i < n) × (get_or (take n order) i 0 ≡ get_or order i 0)
-    order_at i l = let e = order_length in let lt : i < n = omega arith in (lt, get_or-take n order i 0 lt)
+    pub order_below : PlacesBelow order (length adj)
+    order_below i l = t.below i (listed i l)
 
-    pub order_first : get_or (take n order) 0 0 ≡ root
-    order_first = get_or-take n order 0 0 t.some ∙ t.first
+    pub order_within : (word : ℕ) → ((q : ℕ) → bit word q ≡ 1 → Reach adj live root q) → Within order (length order) word
+    order_within word all q o = let w = t.complete q (all q o) in (w.0, subst (λ (m : ℕ). w.0 < m) (sym h) w.1, w.2)
 
-    pub order_below : PlacesBelow (take n order) (length adj)
-    order_below i l = let a = order_at i l in subst (λ (m : ℕ). m < length adj) (sym a.1) (t.below i a.0)
+    pub order_once : (i : ℕ) → 0 < i → i < length order → get_or order i 0 ≢ root
+    order_once i i0 l z = let b : i ≡ 0 = t.once i 0 (listed i l) t.some (z ∙ sym t.first) in omega arith
 
-    pub order_within : (word : ℕ) → ((q : ℕ) → bit word q ≡ 1 → Reach adj live root q) → Within (take n order) (length (take n order)) word
-    order_within word all q o =
-        let w = t.complete q (all q o) in
-        (w.0, subst (λ (m : ℕ). w.0 < m) (sym order_length) w.1, get_or-take n order w.0 0 w.1 ∙ w.2)
-
-    pub parents_first : ParentsFirst (take n order) parent
+    pub parents_first : ParentsFirst order parent
     parents_first i i0 l =
-        let a = order_at i l in
-        let lt : i < n = a.0 in
-        let e : get_or (take n order) i 0 ≡ get_or order i 0 = a.1 in
-        let c = t.children i i0 lt in
+        let c = t.children i i0 (listed i l) in
         let ju : c.up.0 < i = c.up.1 in
-        let f : get_or (take n order) c.up.0 0 ≡ get_or order c.up.0 0 = get_or-take n order c.up.0 0 (omega arith) in
-        let u : get_or parent (get_or (take n order) i 0) 0 ≡ get_or parent (get_or order i 0) 0 = ap (λ (v : ℕ). get_or parent v 0) e in (
-          λ k. (let j : c.up.0 ≡ i = t.once c.up.0 i (omega arith) lt (c.up.2 ∙ sym u ∙ sym k ∙ e) in omega arith),
-          (c.up.0, ju, f ∙ c.up.2 ∙ sym u),
+        let lt : i < n = listed i l in (
+          λ k. (let j : c.up.0 ≡ i = t.once c.up.0 i (omega arith) lt (c.up.2 ∙ sym k) in omega arith),
+          (c.up.0, ju, c.up.2),
         )
 
     -- ---- gates along the tree
 
-    pub along_tree_on_edge : (g : Gate) → AlongTree (take n order) parent g → OnEdge adj g
+    pub along_tree_on_edge : (g : Gate) → AlongTree order parent g → OnEdge adj g
     along_tree_on_edge g l = go l.3
       where
-        along : bit (get_or adj (get_or parent (get_or (take n order) l.0 0) 0) 0) (get_or (take n order) l.0 0) ≡ 1
-        along =
-            let a = order_at l.0 l.2 in
-            ap (λ (v : ℕ). bit (get_or adj (get_or parent v 0) 0) v) a.1 ∙ (t.children l.0 l.1 a.0).edge
+        along : bit (get_or adj (get_or parent (get_or order l.0 0) 0) 0) (get_or order l.0 0) ≡ 1
+        along = (t.children l.0 l.1 (listed l.0 l.2)).edge
 
-        go : Between (get_or (take n order) l.0 0) (get_or parent (get_or (take n order) l.0 0) 0) g → OnEdge adj g
+        go : Between (get_or order l.0 0) (get_or parent (get_or order l.0 0) 0) g → OnEdge adj g
         go (inl e) = subst (OnEdge adj) (sym e) (inr along)
         go (inr e) = subst (OnEdge adj) (sym e) (inl along)
 
-    pub along_tree_on_island : bit live root ≡ 1 → (g : Gate) → AlongTree (take n order) parent g → OnIsland adj live root g
+    pub along_tree_on_island : bit live root ≡ 1 → (g : Gate) → AlongTree order parent g → OnIsland adj live root g
     along_tree_on_island lr g l = go l.3
       where
-        at : (l.0 < n) × (get_or (take n order) l.0 0 ≡ get_or order l.0 0)
-        at = order_at l.0 l.2
+        child : Reach adj live root (get_or order l.0 0)
+        child = tree_reached lr l.0 (listed l.0 l.2)
 
-        child : Reach adj live root (get_or (take n order) l.0 0)
-        child = subst (Reach adj live root) (sym at.1) (tree_reached lr l.0 at.0)
-
-        its_parent : Reach adj live root (get_or parent (get_or (take n order) l.0 0) 0)
+        its_parent : Reach adj live root (get_or parent (get_or order l.0 0) 0)
         its_parent =
-            let c = t.children l.0 l.1 at.0 in
+            let c = t.children l.0 l.1 (listed l.0 l.2) in
             let j : c.up.0 < l.0 = c.up.1 in
-            let b : l.0 < n = at.0 in
-            subst (Reach adj live root) (c.up.2 ∙ ap (λ (v : ℕ). get_or parent v 0) (sym at.1))
-            (tree_reached lr c.up.0 (omega arith))
+            let b : l.0 < n = listed l.0 l.2 in
+            subst (Reach adj live root) c.up.2 (tree_reached lr c.up.0 (omega arith))
 
-        go : Between (get_or (take n order) l.0 0) (get_or parent (get_or (take n order) l.0 0) 0) g → OnIsland adj live root g
+        go : Between (get_or order l.0 0) (get_or parent (get_or order l.0 0) 0) g → OnIsland adj live root g
         go (inl e) = subst (OnIsland adj live root) (sym e) (child, its_parent)
         go (inr e) = subst (OnIsland adj live root) (sym e) (its_parent, child)
 

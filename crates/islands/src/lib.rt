@@ -2,6 +2,7 @@
 #![tactic(auto)]
 
 ghost use Rattle.std.specs.Prelude.{◌≡◌, ℕ, ◌+◌, ◌-◌, ◌*◌, ◌^◌, ◌<◌, ◌≤◌, ◌≢◌, List, length, set, bit_and, bit_or, count_ones, slice_index, slice_set};
+ghost use Rattle.arrayvec.specs.ArrayVec.{array_vec_len};
 ghost use Rattle.parity.specs.Words.{entry, replay};
 ghost use Rattle.parity.specs.Sets.{bit, xor_over};
 ghost use Rattle.parity.specs.Gates.{acts, TwoPlaces, Each, Spares};
@@ -11,6 +12,7 @@ ghost use Rattle.islands.specs.Trees.{TreeOrder, ParentsFirst, PlacesBelow, With
 ghost use Rattle.islands.specs.Moves.{AlongTree, Settled};
 ghost use Rattle.islands.specs.Laws.{LastPlaceCanGo};
 
+use arrayvec::ArrayVec;
 use parity::sets::{entry_of, flip, has, lowest, single, without};
 
 // For each of at most 64 places the set of its neighbours, and which places are live: may still be used.
@@ -20,6 +22,13 @@ pub struct LiveGraph<'a> {
     pub live: u64,
     ghost small: { length rows.now ≤ 64 },
     ghost inside: { live < 2 ^ length rows.now },
+}
+
+// A tree on an island: its places in order, the root first, and the parent of each other place.
+#[derive(Drop)]
+pub struct Tree {
+    pub order: ArrayVec<usize, 64>,
+    pub parent: [usize; 64],
 }
 
 impl LiveGraph<'_> {
@@ -38,31 +47,31 @@ impl LiveGraph<'_> {
         seen
     }
 
-    // Writes the island of root as a tree, breadth first: its places into order, the root first, and the parent
-    // of each other place into parent. Returns how many places there are.
-    pub fn tree_order(&self, root: usize, order: &mut [usize], parent: &mut [usize]) -> usize
+    // The island of root as a tree, breadth first.
+    pub fn tree_order(&self, root: usize) -> Tree
         requires inside { root < length self.now.rows.now }
-        requires room { (length self.now.rows.now ≤ length order.old) × (length self.now.rows.now ≤ length parent.old) }
-        ensures no_more_than_places { result ≤ length self.now.rows.now }
-        ensures no_more_than_live { bit self.now.live root ≡ 1 → result ≤ count_ones self.now.live }
-        ensures tree { TreeOrder self.now.rows.now self.now.live root order.new parent.new result }
+        ensures no_more_than_places { array_vec_len result.order ≤ length self.now.rows.now }
+        ensures no_more_than_live { bit self.now.live root ≡ 1 → array_vec_len result.order ≤ count_ones self.now.live }
+        ensures tree { TreeOrder self.now.rows.now self.now.live root result.order.items result.parent (array_vec_len result.order) }
     {
         let mut seen = single(root);
-        order[0] = root;
-        let mut n = 1;
+        let mut order: ArrayVec<usize, 64> = ArrayVec::new();
+        order.push(root);
+        let mut parent = [0; 64];
         let mut head = 0;
-        while head < n {
+        // Kept: the order grows while it is walked, so no iterator may hold it.
+        while head < order.len() {
             let q = order[head];
             match lowest(without(self.rows[q] & self.live, seen)) {
                 Some(r) => {
                     seen ^= single(r);
-                    hang(order, parent, n, r, q);
-                    n += 1;
+                    order.push(r);
+                    parent[r] = q;
                 }
                 None => head += 1,
             }
         }
-        n
+        Tree { order, parent }
     }
 
     // Brings the set `word` to root, along neighbours inside live. Writes the gates into out from `at` on,
@@ -82,10 +91,8 @@ impl LiveGraph<'_> {
         ensures spares_root { bit word root ≡ 1 → Each (Spares root) (gates_in out.new at result) }
         ensures delivers { (ws : List ℕ) → length ws ≡ length self.now.rows.now → slice_index (replay (gates_in out.new at result) ws) root ≡ xor_over ws word }
     {
-        let mut order = [0; 64];
-        let mut parent = [0; 64];
-        let n = self.tree_order(root, &mut order, &mut parent);
-        gather(&order[..n], &parent, word, out, at)
+        let tree = self.tree_order(root);
+        gather(tree.order.as_slice(), &tree.parent, word, out, at)
     }
 }
 
@@ -139,16 +146,6 @@ fn with_live(seen: u64, neighbours: u64, live: u64) -> u64
     ensures { result ≡ bit_or seen (bit_and neighbours live) }
 {
     seen | (neighbours & live)
-}
-
-// Puts the place r at n in the order, with q for its parent.
-fn hang(order: &mut [usize], parent: &mut [usize], n: usize, r: usize, q: usize)
-    requires room { (n < length order.old) × (r < length parent.old) }
-    ensures placed { order.new ≡ slice_set order.old n r }
-    ensures below_its_parent { parent.new ≡ slice_set parent.old r q }
-{
-    order[n] = r;
-    parent[r] = q;
 }
 
 // Writes the gate with control c and target t as entry k of out, and returns where the gates end then.
