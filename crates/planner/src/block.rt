@@ -77,7 +77,7 @@ fn fresh_of(n: usize) -> ArrayVec<u64, 64>
 }
 
 // Whether a and b are two of n wires.
-// Kept: a pair of wires would be taken apart at once, as control and target or as the ends of an exchange.
+// Kept: a pair of wires, in each call here that has two, would be taken apart at once, as control and target or as ends of an exchange.
 fn check_wires(n: usize, a: usize, b: usize) -> Result<(), WireFault>
     ensures { result ≡ answered (wire_fault n a b) tt }
 {

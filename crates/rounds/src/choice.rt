@@ -31,7 +31,7 @@ fn size(set: &u64, dual: &u64) -> u32
 }
 
 // A place of start's island that can go: the nearest to start that is found.
-// Kept: that edges stand at both ends is no part of the graph's type, since `island_of` does not ask it of its callers.
+// Kept: that edges stand at both ends, here and in `plan`, `give` and the looks, is no fact of the type: `island_of` does not ask it.
 pub fn root(graph: &LiveGraph<'_>, start: usize) -> usize
     requires graph { Graph graph.now.rows.now }
     requires inside { start < length graph.now.rows.now }

@@ -57,7 +57,7 @@ pub fn plan(adj: &[u64], wanted: &mut [u64], duals: &mut [u64], out: &mut [u16])
 
 // Gives the wire w a place: by a round, unless each set on its island is a single place.
 // Writes the gates into out from `at` on. Returns the place, and where the gates end.
-// Kept: sets and duals are brought by turns, and the contract says where in the buffer the gates lie: pairs would be taken apart.
+// Kept: the contract says between which places of the one buffer the gates lie, so a writer of both would be taken apart.
 fn give(
     graph: &LiveGraph<'_>,
     w: usize,

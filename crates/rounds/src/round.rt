@@ -14,7 +14,8 @@ use parity::sets::{acted, ends_of, entry_of};
 
 // Brings the wanted set of the wire w to r, along edges inside live, and then its dual, as far as it lies on the island of r,
 // with control and target exchanged. Writes the gates into out from `at` on, and returns where they end.
-// Kept: sets and duals change roles halfway, and the contract says where in the buffer the gates lie: pairs would be taken apart.
+// Kept: sets and duals, here and in `plan`, `give` and `next_wire`, change roles halfway, so a pair would be taken apart.
+// Kept: the contract says between which places of the one buffer the gates lie, so a writer of both would be taken apart.
 pub fn bring_both(
     graph: &LiveGraph<'_>,
     w: usize,

@@ -13,7 +13,7 @@ use session::store::Session;
 use session_fault::SessionFault;
 
 // Makes the call that the order asks for, if its slot allows one, and answers what came of it.
-// Kept: session, machine, slots and buffer come apart, here and in `run`: callers have them apart, and a struct would borrow all four.
+// Kept: session, machine, slots and buffer come apart, in `run` and what it calls: callers have them so, and a struct would borrow all.
 // Kept: each order has its own arguments and call, so this is a match and no table of closures.
 pub fn act<M: Machine>(
     session: &mut Session,
