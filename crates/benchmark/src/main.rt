@@ -104,7 +104,7 @@ impl<'a> Printer<'a> {
     fn print_rate<M: Machine>(&self, machine: &M, line: Line<'_>) -> io::Result<()> {
         let rt = self.rt;
         let adjacency = Adjacency::of(machine);
-        let tasks = all_tasks(rt.alloc(), line.places, line.calls, line.blocks.get())?;
+        let tasks = all_tasks(rt.alloc(), line.places, line.calls, line.blocks.get());
         let start = Instant::now(rt)?;
         let planned = plan_all(&adjacency, tasks.as_slice());
         let rate = per_second(planned, start.elapsed(rt)?.as_nanos()).unwrap_or(0);
