@@ -1,5 +1,5 @@
 // The tape machine as a chip and as a machine.
-ghost use Rattle.std.specs.Prelude.{◌≡◌, ◌+◌, ◌*◌, ◌<◌, [], ◌∷◌, ◌++◌, vec_capacity, vec_len, length, nat_lt, take};
+ghost use Rattle.std.specs.Prelude.{◌≡◌, ◌+◌, ◌*◌, ◌<◌, [], ◌∷◌, ◌++◌, vec_capacity, vec_len, nat_lt, slice_index};
 ghost use Rattle.tape.specs.Tape.{tape_meaning, Makes};
 ghost use Rattle.tape.specs.Tapes;
 
@@ -59,15 +59,15 @@ impl<C: Chip> TapeMachine<C> {
 }
 
 impl<C: Chip> TapeMachine<C> {
-    // The words after the gates kept: those of the chip's places count.
-    fn replayed(&self) -> [u64; 64]
-        ensures room { length result ≡ 64 }
-        ensures words { take (C.Chip.layout self.now.chip).places result ≡ (tape_meaning (C.Chip.layout self.now.chip) self.now).words }
+    // The word at place q after the gates kept.
+    fn replayed_word(&self, q: usize) -> u64
+        requires { q < (C.Chip.layout self.now.chip).places }
+        ensures { result ≡ slice_index (tape_meaning (C.Chip.layout self.now.chip) self.now).words q }
     {
         let n = self.chip.width();
         let mut words = fresh_words();
         replay_entries(self.entries(), &mut words[..n]);
-        words
+        words[q]
     }
 
     // Puts a gate on the tape.
@@ -98,10 +98,11 @@ impl<C: Chip> Machine for TapeMachine<C> {
     ghost fitting = { λ m. Tapes.fits (C.Chip.layout m.chip) m (C.Chip.sound m.chip) };
 
     fn word(&self, q: usize) -> Result<u64, MachineFault> {
-        self.replayed()[..self.chip.width()]
-            .get(q)
-            .copied()
-            .ok_or(MachineFault::PlaceOutOfRange)
+        // Before the replay, so that a refusal does not wait for it.
+        if q >= self.chip.width() {
+            return Err(MachineFault::PlaceOutOfRange);
+        }
+        Ok(self.replayed_word(q))
     }
 
     // Kept: `serves`, `set` and `into_chip` are a line each over this machine's own fields; a trait for the fields would be longer.
