@@ -2,28 +2,31 @@
 ghost use Rattle.std.specs.Prelude.{◌≡◌, ◌<◌, length};
 ghost use Rattle.map.specs.Couplers.{ends_in, repeated, bad_coupler, first_bad};
 
+use crate::store::in_places;
 use chip::meets;
 
 // Whether a coupler before k joins the same two places, in either order.
-fn repeats(couplers: &[(usize, usize)], k: usize) -> bool
+fn repeats(couplers: &[(u8, u8)], k: usize) -> bool
     requires { k < length couplers.now }
     ensures { result ≡ repeated (ends_in couplers.now) k }
 {
-    let ends = couplers[k];
-    couplers[..k].iter().any(|&earlier| meets(earlier, ends))
+    let ends = in_places(couplers[k]);
+    couplers[..k]
+        .iter()
+        .any(|&earlier| meets(in_places(earlier), ends))
 }
 
 // Whether no chip with these places may have coupler k.
-fn is_bad(places: usize, couplers: &[(usize, usize)], k: usize) -> bool
+fn is_bad(places: usize, couplers: &[(u8, u8)], k: usize) -> bool
     requires { k < length couplers.now }
     ensures { result ≡ bad_coupler places (ends_in couplers.now) k }
 {
-    let (a, b) = couplers[k];
+    let (a, b) = in_places(couplers[k]);
     a >= places || b >= places || a == b || repeats(couplers, k)
 }
 
 // The first coupler that is bad, if one is.
-pub(crate) fn first_bad(places: usize, couplers: &[(usize, usize)]) -> Option<usize>
+pub(crate) fn first_bad(places: usize, couplers: &[(u8, u8)]) -> Option<usize>
     ensures { result ≡ first_bad places (length couplers.now) (ends_in couplers.now) }
 {
     (0..couplers.len()).find(

@@ -2,7 +2,7 @@
 // then m left ends and m right ends, a byte each.
 #![tactic(auto)]
 
-ghost use Rattle.std.specs.Prelude.{◌≡◌, ◌+◌, ◌*◌, ◌<◌, ◌≤◌, ℕ, cond, nat_lt, length, slice_index, slice_index_or, MatchResult};
+ghost use Rattle.std.specs.Prelude.{◌≡◌, ◌+◌, ◌*◌, ◌<◌, ◌≤◌, ℕ, length, slice_index, slice_index_or, MatchResult};
 ghost use Rattle.chip.specs.Layout.{Sound};
 ghost use Rattle.chip.specs.declared.fault.ChipFault.TheVariants.{NoMemory as OutOfMemory};
 ghost use Rattle.map.specs.Couplers.{layout_with};
@@ -16,8 +16,8 @@ use check::first_bad;
 use chip::Chip;
 use chip::fault::ChipFault;
 use std::alloc::Global;
-use std::array;
 pub use store::MappedChip;
+use store::in_places;
 
 // The most couplers that a chip may have.
 const MOST: usize = 256;
@@ -59,7 +59,7 @@ impl MappedChip {
     fn with_couplers(
         heap: Global,
         places: usize,
-        couplers: &[(usize, usize)],
+        couplers: &[(u8, u8)],
     ) -> Result<MappedChip, ChipFault>
         requires { Sound (layout_with places couplers.now) }
         ensures { MatchResult result (λ c. layout_of c ≡ layout_with places couplers.now) (λ f. f ≡ OutOfMemory) }
@@ -71,23 +71,17 @@ impl MappedChip {
 
 // The m left ends, each with its right end; the right ends begin after them.
 // Kept: a fixed array, since no memory may be asked for before the couplers are checked.
-fn paired(ends: &[u8], m: usize) -> [(usize, usize); MOST]
+fn paired(ends: &[u8], m: usize) -> [(u8, u8); MOST]
     requires { (length ends.now ≡ 2 * m) × (m ≤ 256) }
     ensures room { length result ≡ 256 }
     ensures ends { (k : ℕ) → k < m → slice_index_or result k (0, 0) ≡ (slice_index ends.now k, slice_index ends.now (m + k)) }
 {
-    array::from_fn(
-        |k|
-            requires { length ends.now ≡ 2 * m }
-            ensures { result ≡ cond (nat_lt k m) (slice_index ends.entry.now k, slice_index ends.entry.now (m + k)) (0, 0) }
-        {
-            if k < m {
-                (ends[k] as usize, ends[m + k] as usize)
-            } else {
-                (0, 0)
-            }
-        },
-    )
+    let mut pairs = [(0, 0); MOST];
+    // Kept: only the first m are filled, where `from_fn` would make all; most chips have few couplers.
+    for k in 0..m {
+        pairs[k] = (ends[k], ends[m + k]);
+    }
+    pairs
 }
 
 impl Chip for MappedChip {
@@ -106,7 +100,7 @@ impl Chip for MappedChip {
     fn ends(&self, k: usize) -> Result<(usize, usize), ChipFault> {
         self.couplers
             .get(k)
-            .copied()
+            .map(|&ends| in_places(ends))
             .ok_or(ChipFault::NoSuchCoupler)
     }
 }
