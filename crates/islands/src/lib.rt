@@ -55,23 +55,26 @@ impl LiveGraph<'_> {
         ensures tree { TreeOrder self.now.rows.now self.now.live root result.order.items result.parent (array_vec_len result.order) }
     {
         let mut seen = single(root);
-        let mut order: ArrayVec<usize, 64> = ArrayVec::new();
-        order.push(root);
-        let mut parent = [0; 64];
+        // In place from the start: a move of a tree copies a kibibyte.
+        let mut tree = Tree {
+            order: ArrayVec::new(),
+            parent: [0; 64],
+        };
+        tree.order.push(root);
         let mut head = 0;
         // Kept: the order grows while it is walked, so no iterator may hold it.
-        while head < order.len() {
-            let q = order[head];
+        while head < tree.order.len() {
+            let q = tree.order[head];
             match lowest(without(self.rows[q] & self.live, seen)) {
                 Some(r) => {
                     seen ^= single(r);
-                    order.push(r);
-                    parent[r] = q;
+                    tree.order.push(r);
+                    tree.parent[r] = q;
                 }
                 None => head += 1,
             }
         }
-        Tree { order, parent }
+        tree
     }
 
     // Brings the set `word` to root, along neighbours inside live. Writes the gates into out from `at` on,
@@ -92,6 +95,33 @@ impl LiveGraph<'_> {
         ensures delivers { (ws : List ℕ) → length ws ≡ length self.now.rows.now → slice_index (replay (gates_in out.new at result) ws) root ≡ xor_over ws word }
     {
         let tree = self.tree_order(root);
+        self.bring_along(&tree, root, word, out, at)
+    }
+
+    // The same along a tree that is at hand.
+    // Kept: the contracts say between which places of the one buffer the gates of each call lie, so a writer of both would be taken apart.
+    pub fn bring_along(
+        &self,
+        tree: &Tree,
+        root: usize,
+        word: u64,
+        out: &mut [u16],
+        at: usize,
+    ) -> usize
+        requires tree { TreeOrder self.now.rows.now self.now.live root tree.now.order.items tree.now.parent (array_vec_len tree.now.order) }
+        requires few { array_vec_len tree.now.order ≤ count_ones self.now.live }
+        requires some { word ≢ 0 }
+        requires on_island { (q : ℕ) → bit word q ≡ 1 → Reach self.now.rows.now self.now.live root q }
+        requires alive { bit self.now.live root ≡ 1 }
+        requires room { at + 2 * (count_ones self.now.live - 1) ≤ length out.old }
+        ensures wrote { Wrote out.old out.new at result (2 * (count_ones self.now.live - 1)) }
+        ensures brought { acts (gates_in out.new at result) word ≡ 2 ^ root }
+        ensures two_places { Each (TwoPlaces (length self.now.rows.now)) (gates_in out.new at result) }
+        ensures on_edges { Each (OnEdge self.now.rows.now) (gates_in out.new at result) }
+        ensures on_island { Each (OnIsland self.now.rows.now self.now.live root) (gates_in out.new at result) }
+        ensures spares_root { bit word root ≡ 1 → Each (Spares root) (gates_in out.new at result) }
+        ensures delivers { (ws : List ℕ) → length ws ≡ length self.now.rows.now → slice_index (replay (gates_in out.new at result) ws) root ≡ xor_over ws word }
+    {
         gather(tree.order.as_slice(), &tree.parent, word, out, at)
     }
 }

@@ -41,16 +41,16 @@ pub fn root(graph: &LiveGraph<'_>, start: usize) -> usize
     ensures reached { Reach graph.now.rows.now graph.now.live start result }
     ensures can_go { CanGo graph.now.rows.now graph.now.live result }
 {
-    let order = graph.tree_order(start).order;
+    let tree = graph.tree_order(start);
     let island = LiveGraph {
         rows: graph.rows,
         live: graph.island_of(start),
     };
-    order
+    tree.order
         .iter()
         .find(|r| hangs_together_without(&island, **r))
         .copied()
-        .unwrap_or(order[order.len() - 1])
+        .unwrap_or(tree.order[tree.order.len() - 1])
 }
 
 // Whether the other places of an island reach one another without r.

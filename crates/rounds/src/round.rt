@@ -34,10 +34,11 @@ pub fn bring_both(
     ensures both { BothBrought graph.now.rows.now graph.now.live w r wanted.old wanted.new duals.old duals.new out.old out.new at result }
     ensures told { Told graph.now.rows.now graph.now.live r }
 {
-    let mid = graph.bring(r, wanted[w], out, at);
+    let tree = graph.tree_order(r);
+    let mid = graph.bring_along(&tree, r, wanted[w], out, at);
     carry(&out[at..mid], wanted, duals);
     let island = graph.island_of(r);
-    let end = graph.bring(r, duals[w] & island, out, mid);
+    let end = graph.bring_along(&tree, r, duals[w] & island, out, mid);
     carry(&out[mid..end], duals, wanted);
     turn(&mut out[mid..end]);
     end

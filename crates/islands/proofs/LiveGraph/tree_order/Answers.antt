@@ -9,10 +9,10 @@ use Rattle.islands.proofs.LiveGraph.tree_order.Goals as goal
 
 pub loop-head-init : goal.loop-head-init
 loop-head-init c = (
-  omega (arith, c.push.ensures.len, c.new-order.ensures),
-  omega (arith, c.push.ensures.len, ap length c.new-order.ensures),
+  omega (arith, c.push.ensures.len, c.new.ensures),
+  omega (arith, c.push.ensures.len, ap length c.new.ensures),
   refl,
-  simp (c.push.ensures.items, c.new-order.ensures)
+  simp (c.push.ensures.items, c.new.ensures)
       (growing_start c.args.self.now.rows.now c.args.self.now.live c.args.root _ c.single-seen.result (c.single-seen.ensures.place (omega arith)) c.requires.inside),
 )
 
@@ -62,8 +62,8 @@ loop-head-preserved-in-Some c =
     ap (bit_xor c.loop-head.seen) (c.single-seen-in-Some.ensures.place (omega arith)) in (
       omega (arith, c.push-in-Some.ensures.len),
       omega (arith, c.push-in-Some.ensures.len),
-      length-set c.loop-head.parent c.in-Some.r _ ∙ c.loop-head.invariant.2,
-      simp (c.push-in-Some.ensures.items, here, grown, length-append c.loop-head.order.items (c.in-Some.r ∷ []))
+      length-set c.loop-head.tree.parent c.in-Some.r _ ∙ c.loop-head.invariant.2,
+      simp (c.push-in-Some.ensures.items, here, grown, length-append c.loop-head.tree.order.items (c.in-Some.r ∷ []))
           (growing_add c.loop-head.invariant.3 next (omega (arith, c.len.ensures.value, c.loop-head-test.true)) refl (omega arith)),
     )
 

@@ -69,14 +69,14 @@ pub returns : goal.returns
 returns c =
     let adj = c.args.graph.now.rows.now in
     let live = c.args.graph.now.live in
-    let tree = c.tree_order-order.result in
+    let tree = c.tree_order-tree.result in
     let order = tree.order.items in
     let last = get_or order (length order - 1) 0 in
     let island = c.island_of.result in
     let found =
     first_from_find _ _ c.find.result (Hangs adj island) (λ _. Unit {0}) c.find.ensures.ran (YieldsList-from_slice order (c.iter.ensures.rest ∙ c.deref.ensures.0))
     (λ x q k. search (rules, tests)) (λ x q k. search (rules, tests)) in
-    let f = found_fits adj live c.args.start island order tree.parent c.requires.graph c.tree_order-order.ensures.tree c.requires.alive
+    let f = found_fits adj live c.args.start island order tree.parent c.requires.graph c.tree_order-tree.ensures.tree c.requires.alive
     c.island_of.ensures.only_reached c.island_of.ensures.all_reached c.find.result found in
     let end : get_or c.deref-2.result.now (c.len.result - 1) 0 ≡ last =
     ap (λ l. get_or l (c.len.result - 1) 0) c.deref-2.ensures.0 ∙ ap (λ m. get_or order (m - 1) 0) c.len.ensures.value in

@@ -20,35 +20,36 @@ use Rattle.rounds.proofs.round.bring_both.Goals as goal
 pub carry-requires : goal.carry-requires
 unfolding gates_in
 carry-requires c = each_map (TwoPlaces (length c.args.graph.now.rows.now)) (TwoPlaces 64) (two_places_more (length c.args.graph.now.rows.now) 64 c.args.graph.now.small)
-    (gates_in c.bring-mid.new.out c.args.at c.bring-mid.result) c.bring-mid.ensures.two_places
+    (gates_in c.bring_along-mid.new.out c.args.at c.bring_along-mid.result) c.bring_along-mid.ensures.two_places
 
-pub bring-end-requires : goal.bring-end-requires
+pub bring_along-end-requires : goal.bring_along-end-requires
 unfolding gates_in
-bring-end-requires c =
+bring_along-end-requires c =
     let r = c.args.r in
     let y = get_or c.carry.new.reversed c.args.w 0 in
     let i = c.island_of-island.result in
     let h : bit y r ≡ 1 =
-    dual_has (length c.args.graph.now.rows.now) (gates_in c.bring-mid.new.out c.args.at c.bring-mid.result)
+    dual_has (length c.args.graph.now.rows.now) (gates_in c.bring_along-mid.new.out c.args.at c.bring_along-mid.result)
     c.args.wanted.now c.args.duals.now c.carry.new.reversed c.args.w r
-    c.bring-mid.ensures.two_places c.carry.ensures.moved_turned c.bring-mid.ensures.brought c.requires.paired in
+    c.bring_along-mid.ensures.two_places c.carry.ensures.moved_turned c.bring_along-mid.ensures.brought c.requires.paired in
     record {
-      inside = c.requires.inside;
+      tree = c.tree_order-tree.ensures.tree;
+      few = c.tree_order-tree.ensures.no_more_than_live c.requires.alive;
       some = bit_some (bit_and y i) r (and_in y i r h (c.island_of-island.ensures.all_reached r here));
       on_island = λ q o. c.island_of-island.ensures.only_reached q (and_parts y i q o).1;
       alive = c.requires.alive;
-      room = omega (arith, c.bring-mid.ensures.wrote.few);
+      room = omega (arith, c.bring_along-mid.ensures.wrote.few);
     }
 
 pub carry-requires-2 : goal.carry-requires-2
 unfolding gates_in
 carry-requires-2 c = each_map (TwoPlaces (length c.args.graph.now.rows.now)) (TwoPlaces 64) (two_places_more (length c.args.graph.now.rows.now) 64 c.args.graph.now.small)
-    (gates_in c.bring-end.new.out c.bring-mid.result c.bring-end.result) c.bring-end.ensures.two_places
+    (gates_in c.bring_along-end.new.out c.bring_along-mid.result c.bring_along-end.result) c.bring_along-end.ensures.two_places
 
 pub turn-requires : goal.turn-requires
 unfolding gates_in
 turn-requires c = each_map (TwoPlaces (length c.args.graph.now.rows.now)) (TwoPlaces 64) (two_places_more (length c.args.graph.now.rows.now) 64 c.args.graph.now.small)
-    (gates_in c.bring-end.new.out c.bring-mid.result c.bring-end.result) c.bring-end.ensures.two_places
+    (gates_in c.bring_along-end.new.out c.bring_along-mid.result c.bring_along-end.result) c.bring_along-end.ensures.two_places
 
 pub returns : goal.returns
 unfolding gates_in
@@ -59,15 +60,15 @@ returns c =
     let r = c.args.r in
     let w = c.args.w in
     let at = c.args.at in
-    let mid = c.bring-mid.result in
-    let end = c.bring-end.result in
+    let mid = c.bring_along-mid.result in
+    let end = c.bring_along-end.result in
     let out0 = c.args.out.now in
-    let out1 = c.bring-mid.new.out in
-    let out2 = c.bring-end.new.out in
+    let out1 = c.bring_along-mid.new.out in
+    let out2 = c.bring_along-end.new.out in
     let es = c.turn.new.entries in
     let out3 = take mid out2 ++ (es ++ drop (end - mid) (drop mid out2)) in
-    let b1 = c.bring-mid.ensures in
-    let b2 = c.bring-end.ensures in
+    let b1 = c.bring_along-mid.ensures in
+    let b2 = c.bring_along-end.ensures in
     let f1 : at ≤ mid = b1.wrote.forward in
     let f2 : mid ≤ end = b2.wrote.forward in
     let few1 : mid ≤ at + 2 * (ones live - 1) = b1.wrote.few in

@@ -9,18 +9,18 @@ use Rattle.islands.specs.Trees.{TreeOrder, PlacesBelow}
 use Rattle.islands.specs.Moves.{AlongTree}
 use Rattle.islands.proofs.Trees.{order_below, order_within, order_once, parents_first, along_tree_on_edge, along_tree_on_island}
 use Rattle.islands.proofs.Gathering.{along_tree_two_places}
-use Rattle.islands.proofs.LiveGraph.bring.Goals as goal
+use Rattle.islands.proofs.LiveGraph.bring_along.Goals as goal
 
 pub gather-requires : goal.gather-requires
 gather-requires c =
     let adj = c.args.self.now.rows.now in
-    let parent = c.tree_order-tree.result.parent in
+    let parent = c.args.tree.now.parent in
     let order = c.as_slice.result.now in
     let same = c.as_slice.ensures.value in
     let t : TreeOrder adj c.args.self.now.live c.args.root order parent (length order) =
-    subst (λ (o : List ℕ). TreeOrder adj c.args.self.now.live c.args.root o parent (length o)) (sym same) c.tree_order-tree.ensures.tree in
+    subst (λ (o : List ℕ). TreeOrder adj c.args.self.now.live c.args.root o parent (length o)) (sym same) c.requires.tree in
     let some : 0 < length order = t.some in
-    let few : length order ≤ ones c.args.self.now.live = subst (λ (o : List ℕ). length o ≤ ones c.args.self.now.live) (sym same) (c.tree_order-tree.ensures.no_more_than_live c.requires.alive) in
+    let few : length order ≤ ones c.args.self.now.live = subst (λ (o : List ℕ). length o ≤ ones c.args.self.now.live) (sym same) c.requires.few in
     record {
       some = (some, c.requires.some);
       places = ((λ i l. let b = order_below t refl i l in omega arith), omega arith);
@@ -34,12 +34,12 @@ returns c =
     let adj = c.args.self.now.rows.now in
     let live = c.args.self.now.live in
     let root = c.args.root in
-    let parent = c.tree_order-tree.result.parent in
+    let parent = c.args.tree.now.parent in
     let order = c.as_slice.result.now in
     let same = c.as_slice.ensures.value in
     let t : TreeOrder adj live root order parent (length order) =
-    subst (λ (o : List ℕ). TreeOrder adj live root o parent (length o)) (sym same) c.tree_order-tree.ensures.tree in
-    let few : length order ≤ ones live = subst (λ (o : List ℕ). length o ≤ ones live) (sym same) (c.tree_order-tree.ensures.no_more_than_live c.requires.alive) in
+    subst (λ (o : List ℕ). TreeOrder adj live root o parent (length o)) (sym same) c.requires.tree in
+    let few : length order ≤ ones live = subst (λ (o : List ℕ). length o ≤ ones live) (sym same) c.requires.few in
     let e = c.gather.ensures in
     let gs = gates_in c.gather.new.out c.args.at c.gather.result in
     record {
