@@ -75,7 +75,7 @@ pub record Rows (l : Layout) (service : List Bool) (rows : List ℕ) (k : ℕ) :
   pub wide : length rows ≡ l.places
   pub neighbours : (p q : ℕ) → (bit (get_or rows p 0) q ≡ 1) ↔ ServedBelow l service k (p, q)
 
-get_d_zeros : (n p : ℕ) → ◌≡◌ {A = ℕ} (get_or (replicate n 0) p 0) 0
+pub get_d_zeros : (n p : ℕ) → ◌≡◌ {A = ℕ} (get_or (replicate n 0) p 0) 0
 get_d_zeros zero p = refl
 get_d_zeros (suc n) zero = refl
 get_d_zeros (suc n) (suc p) = get_d_zeros n p

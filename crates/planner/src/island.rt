@@ -15,7 +15,16 @@ use parity::sets::all_below;
 pub fn island<M: Machine>(machine: &M, p: usize) -> u64
     ensures { (q : ℕ) → (bit result q ≡ 1) ↔ ((p < (M.Chip.layout machine.now).places) × CouplerWay (M.Chip.layout machine.now) (M.Machine.meaning machine.now).service p q) }
 {
-    Adjacency::of(machine).island(p)
+    let adjacency = Adjacency::of(machine);
+    island_over(machine, &adjacency, p)
+}
+
+// The same over an adjacency that shows the machine.
+fn island_over<M: Machine>(machine: &M, adjacency: &Adjacency, p: usize) -> u64
+    requires shows { Shows (M.Chip.layout machine.now) (M.Machine.meaning machine.now).service (neighbours_of adjacency.now) }
+    ensures { (q : ℕ) → (bit result q ≡ 1) ↔ ((p < (M.Chip.layout machine.now).places) × CouplerWay (M.Chip.layout machine.now) (M.Machine.meaning machine.now).service p q) }
+{
+    adjacency.island(p)
 }
 
 impl Adjacency {

@@ -61,7 +61,28 @@ pub fn plan_on<M: Machine>(
     ensures mismatch_exactly { (result ≡ Err SizeMismatch) ↔ (SizesAre (M.Chip.layout machine.now).places block.now places.now → ⊥) }
     ensures refused_untouched { (f : PlanFault) → result ≡ Err f → out.new ≡ out.old }
 {
-    plan(&Adjacency::of(machine), block, places, out)
+    let adjacency = Adjacency::of(machine);
+    plan_over(machine, &adjacency, block, places, out)
+}
+
+// The same over an adjacency that shows the machine.
+// Kept: the hard proof stands here, so that the public call is proved by search alone.
+fn plan_over<M: Machine>(
+    machine: &M,
+    adjacency: &Adjacency,
+    block: &Block,
+    places: &Places,
+    out: &mut [u16],
+) -> Result<Planned, PlanFault>
+    requires shows { Shows (M.Chip.layout machine.now) (M.Machine.meaning machine.now).service (neighbours_of adjacency.now) }
+    ensures planned { (p : Planned) → result ≡ Ok p → (length (places_of p.places) ≡ (M.Chip.layout machine.now).places) × PlanIn (OnCoupler (M.Chip.layout machine.now) (M.Machine.meaning machine.now).service) (M.Chip.layout machine.now).places (words_of block.now) (places_of places.now) out.old out.new p.gates (places_of p.places) }
+    ensures unreachable_exactly { (result ≡ Err Unreachable) ↔ (SizesAre (M.Chip.layout machine.now).places block.now places.now × (room (M.Chip.layout machine.now).places ≤ length out.old) × NoPlan (OnCoupler (M.Chip.layout machine.now) (M.Machine.meaning machine.now).service) (M.Chip.layout machine.now).places (words_of block.now) (places_of places.now)) }
+    ensures needs_two_islands { result ≡ Err Unreachable → SomeOnTwo (M.Chip.layout machine.now) (M.Machine.meaning machine.now).service (words_of block.now) (places_of places.now) }
+    ensures short_exactly { (needed : ℕ) → (result ≡ Err (BufferTooShort needed)) ↔ (SizesAre (M.Chip.layout machine.now).places block.now places.now × (length out.old < room (M.Chip.layout machine.now).places) × (needed ≡ room (M.Chip.layout machine.now).places)) }
+    ensures mismatch_exactly { (result ≡ Err SizeMismatch) ↔ (SizesAre (M.Chip.layout machine.now).places block.now places.now → ⊥) }
+    ensures refused_untouched { (f : PlanFault) → result ≡ Err f → out.new ≡ out.old }
+{
+    plan(adjacency, block, places, out)
 }
 
 // The plan where the sizes agree and there is room for it.

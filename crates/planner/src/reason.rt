@@ -24,11 +24,25 @@ pub fn first_on_two_islands<M: Machine>(
     ensures none { result ≡ None → SizesAre (M.Chip.layout machine.now).places block.now places.now → (w : ℕ) → w < (M.Chip.layout machine.now).places → OnOneIsland (M.Chip.layout machine.now) (M.Machine.meaning machine.now).service (wires_to_places (places_of places.now) (slice_index (words_of block.now) w)) }
 {
     let adjacency = Adjacency::of(machine);
+    first_over(machine, &adjacency, block, places)
+}
+
+// The same over an adjacency that shows the machine.
+fn first_over<M: Machine>(
+    machine: &M,
+    adjacency: &Adjacency,
+    block: &Block,
+    places: &Places,
+) -> Option<usize>
+    requires shows { Shows (M.Chip.layout machine.now) (M.Machine.meaning machine.now).service (neighbours_of adjacency.now) }
+    ensures first { (w : ℕ) → result ≡ Some w → FirstOnTwo (M.Chip.layout machine.now) (M.Machine.meaning machine.now).service (words_of block.now) (places_of places.now) w }
+    ensures none { result ≡ None → SizesAre (M.Chip.layout machine.now).places block.now places.now → (w : ℕ) → w < (M.Chip.layout machine.now).places → OnOneIsland (M.Chip.layout machine.now) (M.Machine.meaning machine.now).service (wires_to_places (places_of places.now) (slice_index (words_of block.now) w)) }
+{
     let n = adjacency.places();
     if block.wires() != n || places.wires() != n {
         return None;
     }
-    first_sized(&adjacency, block, places)
+    first_sized(adjacency, block, places)
 }
 
 // The same where the sizes agree.

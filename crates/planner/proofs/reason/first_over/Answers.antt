@@ -6,7 +6,7 @@ use Rattle.planner.specs.Views.{neighbours_of, words_of, places_of, SizesAre}
 use Rattle.planner.proofs.Asking.{words_below, placed}
 use Rattle.planner.proofs.Planning.{wanted_at}
 use Rattle.planner.proofs.Couplers.{straddles_over, one_island_over}
-use Rattle.planner.proofs.reason.first_on_two_islands.Goals as goal
+use Rattle.planner.proofs.reason.first_over.Goals as goal
 
 pub first_sized-requires : goal.first_sized-requires
 first_sized-requires g c =
@@ -20,8 +20,8 @@ returns g c =
     let service = (g.M.Machine.meaning c.args.machine.now).service in
     let b = c.args.block.now in
     let p = c.args.places.now in
-    let adj = neighbours_of c.of-adjacency.result in
-    let shows = c.of-adjacency.ensures in
+    let adj = neighbours_of c.args.adjacency.now in
+    let shows = c.requires.shows in
     let sizes : SizesAre (length adj) b p = (sym c.wires.ensures ∙ c.if-wires-n.false ∙ c.places-n.ensures, sym c.wires-else-wires-n.ensures ∙ c.if-wires-n-2.false ∙ c.places-n.ensures) in
     let same : length (map (wires_to_places (places_of p)) (words_of b)) ≡ l.places = length-map (words_of b) (wires_to_places (places_of p)) ∙ sizes.0 ∙ shows.places in
     let at = wanted_at (length adj) (words_of b) (places_of p) (placed (length adj) b p sizes) (words_below (length adj) b p sizes) in

@@ -4,18 +4,18 @@ use Rattle.planner.specs.declared.fault.PlanFault.TheVariants.{SizeMismatch, Buf
 use Rattle.planner.specs.Plans.{room, PlanIn, NoPlan}
 use Rattle.planner.specs.Views.{neighbours_of, words_of, places_of, SizesAre}
 use Rattle.planner.proofs.Couplers.{plan_over, none_over, some_over}
-use Rattle.planner.proofs.plan.plan_on.Goals as goal
+use Rattle.planner.proofs.plan.plan_over.Goals as goal
 
 pub returns : goal.returns
 returns g c =
     let l = g.M.Chip.layout c.args.machine.now in
     let service = (g.M.Machine.meaning c.args.machine.now).service in
-    let a = c.of.result in
+    let a = c.args.adjacency.now in
     let b = c.args.block.now in
     let p = c.args.places.now in
     let before = c.args.out.now in
     let after = c.plan.new.out in
-    let s = c.of.ensures in
+    let s = c.requires.shows in
     let e = c.plan.ensures in
     let same = s.places in
     let n = length (neighbours_of a) in
