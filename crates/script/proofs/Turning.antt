@@ -22,13 +22,13 @@ use Rattle.script.specs.Turns.{Bench, with, Made, adds, swaps, locates, takes_ou
 as_ordered : (b c : Bench) (o p : Order) (a d : Answer) → o ≡ p → a ≡ d → Acts b p d c → Acts b o a c
 as_ordered b c o p a d e f h = subst₂ (λ (x : Order) (y : Answer). Acts b x y c) (sym e) (sym f) h
 
-pub acts_cx : (v w : View) (l : Layout) (m : Meaning) (h : Slots) (b : List ℕ) (x y : ℕ) (o : Order) (a : Result Outcome SessionFault) (r : Result (Unit {0}) SessionFault)
-    → o ≡ order.Cx x y → a ≡ plain r → Cx v x y r w → Acts (with (beside v l m) h b) o (Some a) (with (beside w l m) h b)
-acts_cx v w l m h b x y o a r e f c = as_ordered _ _ o (order.Cx x y) (Some a) (Some (plain r)) e (ap Some f) (record { events = _; turn = adds v w l m h b x y r c })
+pub acts_cx : (v w : View) (l : Layout) (m : Meaning) (h : Slots) (b : List ℕ) (x y : ℕ) (o : Order) (a : Answer) (r : Result (Unit {0}) SessionFault)
+    → o ≡ order.Cx x y → a ≡ Some (plain r) → Cx v x y r w → Acts (with (beside v l m) h b) o a (with (beside w l m) h b)
+acts_cx v w l m h b x y o a r e f c = as_ordered _ _ o (order.Cx x y) a (Some (plain r)) e f (record { events = _; turn = adds v w l m h b x y r c })
 
-pub acts_swap : (v w : View) (l : Layout) (m : Meaning) (h : Slots) (b : List ℕ) (x y : ℕ) (o : Order) (a : Result Outcome SessionFault) (r : Result (Unit {0}) SessionFault)
-    → o ≡ order.Swap x y → a ≡ plain r → Swap v x y r w → Acts (with (beside v l m) h b) o (Some a) (with (beside w l m) h b)
-acts_swap v w l m h b x y o a r e f c = as_ordered _ _ o (order.Swap x y) (Some a) (Some (plain r)) e (ap Some f) (record { events = _; turn = swaps v w l m h b x y r c })
+pub acts_swap : (v w : View) (l : Layout) (m : Meaning) (h : Slots) (b : List ℕ) (x y : ℕ) (o : Order) (a : Answer) (r : Result (Unit {0}) SessionFault)
+    → o ≡ order.Swap x y → a ≡ Some (plain r) → Swap v x y r w → Acts (with (beside v l m) h b) o a (with (beside w l m) h b)
+acts_swap v w l m h b x y o a r e f c = as_ordered _ _ o (order.Swap x y) a (Some (plain r)) e f (record { events = _; turn = swaps v w l m h b x y r c })
 
 pub acts_place : (s : State) (h : Slots) (b : List ℕ) (w : ℕ) (o : Order) (a : Result Outcome SessionFault) (r : Result ℕ SessionFault)
     → o ≡ order.Place w → a ≡ placed r → r ≡ answered (place_fault s.session w) (place_of s.session w) → Acts (with s h b) o (Some a) (with s h b)

@@ -2,6 +2,7 @@
 ghost use Rattle.std.specs.Prelude.{◌≡◌, ◌<◌, true, length, Some, None};
 ghost use Rattle.script.specs.declared.order.Order.TheVariants as order;
 ghost use Rattle.session.specs.Views.{state};
+ghost use Rattle.script.specs.Answers.{plain};
 ghost use Rattle.script.specs.Slots.{vacant, filled, TakesInto, GivesFrom, WritesFrom};
 ghost use Rattle.script.specs.Turns.{bench, Acts};
 
@@ -25,8 +26,8 @@ pub fn act<M: Machine>(
     ensures { Acts (bench session.old (M.Chip.layout machine.old) (M.Machine.meaning machine.old) slots.old buffer.old) order result (bench session.new (M.Chip.layout machine.new) (M.Machine.meaning machine.new) slots.new buffer.new) }
 {
     match order {
-        Order::Cx { a, b } => Some(session.cx(a, b).map(|()| Outcome::Obeyed)),
-        Order::Swap { a, b } => Some(session.swap(a, b).map(|()| Outcome::Obeyed)),
+        Order::Cx { a, b } => noted(session.cx(a, b)),
+        Order::Swap { a, b } => noted(session.swap(a, b)),
         Order::Place { wire } => Some(session.place(wire).map(|place| Outcome::At { place })),
         Order::TakeOut { coupler, slot } => {
             if is_vacant(slots, slot) {
@@ -55,6 +56,13 @@ pub fn act<M: Machine>(
                 .map(|gates| Outcome::Flushed { gates }),
         ),
     }
+}
+
+// What is noted of a call that answers nothing but that it was obeyed.
+fn noted(answer: Result<(), SessionFault>) -> Answer
+    ensures { result ≡ Some (plain answer) }
+{
+    Some(answer.map(|()| Outcome::Obeyed))
 }
 
 // Whether there is such a slot, and it is empty.

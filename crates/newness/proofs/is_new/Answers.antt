@@ -1,5 +1,6 @@
-use Rattle.std.proofs.Common.{ℕ, List, length, get_or, refl, ap, ◌∙◌}
+use Rattle.std.proofs.Common.{ℕ, ◌<◌, List, length, get_or, refl, ap, ◌∙◌, rules}
 use Rattle.parity.proofs.Words.{fresh_from, get_d_fresh}
+use Rattle.newness.specs.New.{InService}
 use Rattle.newness.proofs.Newness.{all_true}
 use Rattle.newness.proofs.is_new.Goals as goal
 
@@ -8,9 +9,10 @@ returns-then-has_fresh_words-clause-yes g c e =
     let l = g.M.Chip.layout c.args.machine.now in
     let m = g.M.Machine.meaning c.args.machine.now in
     let fits = g.met.M.Machine.fitting c.args.machine.now in
+    let serving : (k : ℕ) → k < length l.couplers → InService m k = search rules in
     record {
       fresh_words = fresh_from m.words l.places fits.one_word_each (c.if-has_fresh_words.ensures.yes refl);
-      all_in_service = all_true m.service (length l.couplers) fits.one_mark_each (λ k h. (c.has_all_in_service.ensures.yes e k h).serves);
+      all_in_service = all_true m.service (length l.couplers) fits.one_mark_each (λ k h. (serving k h).serves);
     }
 
 pub returns-else-has_fresh_words-clause-no : goal.returns-else-has_fresh_words-clause-no

@@ -3,13 +3,13 @@ use Rattle.script.proofs.Turning.{acts_cx, acts_swap, acts_place, acts_take, act
 use Rattle.script.proofs.act.act.Goals as goal
 
 pub returns-in-Cx : goal.returns-in-Cx
-returns-in-Cx g c = acts_cx _ _ _ _ _ _ c.in-Cx.a c.in-Cx.b c.args.order c.map.result c.cx.result c.in-Cx.is (search rules) c.cx.ensures
+returns-in-Cx g c = acts_cx _ _ _ _ _ _ c.in-Cx.a c.in-Cx.b c.args.order c.noted.result c.cx.result c.in-Cx.is c.noted.ensures c.cx.ensures
 
 pub returns-in-Swap : goal.returns-in-Swap
-returns-in-Swap g c = acts_swap _ _ _ _ _ _ c.in-Swap.a c.in-Swap.b c.args.order c.map-in-Swap.result c.swap.result c.in-Swap.is (search rules) c.swap.ensures
+returns-in-Swap g c = acts_swap _ _ _ _ _ _ c.in-Swap.a c.in-Swap.b c.args.order c.noted-in-Swap.result c.swap.result c.in-Swap.is c.noted-in-Swap.ensures c.swap.ensures
 
 pub returns-in-Place : goal.returns-in-Place
-returns-in-Place g c = acts_place _ _ _ c.in-Place.wire c.args.order c.map-in-Place.result c.place.result c.in-Place.is (search rules) c.place.ensures
+returns-in-Place g c = acts_place _ _ _ c.in-Place.wire c.args.order c.map.result c.place.result c.in-Place.is (search rules) c.place.ensures
 
 pub returns-then-is_vacant : goal.returns-then-is_vacant
 returns-then-is_vacant g c = acts_take _ _ _ _ _ c.in-TakeOut.coupler c.in-TakeOut.slot c.args.order _ c.in-TakeOut.is (sym c.if-is_vacant.ensures) c.take_into.ensures
