@@ -23,7 +23,7 @@ own = numerals_by_fold _ (search rules) read_on (search rules)
 abbrev pub NoNumber : List ℕ → Type 0
 NoNumber w = (n : ℕ) → Writes w n → ⊥
 
-leading_zero : (w : List ℕ) → zero_led w ≡ true → NoNumber w
+pub leading_zero : (w : List ℕ) → zero_led w ≡ true → NoNumber w
 leading_zero w t n (h, e) =
     let p = and_parts (ltb 1 (length w)) (eqb (get_or w 0 0) 48) t in
     let l : 1 < length w = ltb-true 1 (length w) p.0 in
@@ -44,7 +44,7 @@ no_number w t =
 no_text : (w : List ℕ) → (IsUtf8 w → ⊥) → NoNumber w
 no_text w f n (h, e) = f (subst IsUtf8 (sym e) (IsUtf8-from_ascii (decimal n) (IsAscii-decimal n h)))
 
-writes : (w : List ℕ) → all_ascii_digits w ≡ true → 0 < length w → zero_led w ≡ false → read_on 0 w < 2 ^ 64 → Writes w (read_on 0 w)
+pub writes : (w : List ℕ) → all_ascii_digits w ≡ true → 0 < length w → zero_led w ≡ false → read_on 0 w < 2 ^ 64 → Writes w (read_on 0 w)
 writes w a s z b =
     let alone : get_or w 0 0 ≡ 48 → length w ≡ 1 = λ e. ⊎_elim
     (λ l. absurd (both_ways (zero_led w) z (and_from _ _ (lt-ltb 1 (length w) l) (eq-eqb (get_or w 0 0) 48 e))))

@@ -12,7 +12,7 @@ use Rattle.command.specs.declared.verb.Mistake.TheVariants.{Command}
 use Rattle.command.specs.declared.verb.Verb.TheVariants.{Grid, Map, Table, Tape, Out, In, Cnot, Words, Serves, Allowance}
 use Rattle.command.specs.Verbs.{name_of, Names}
 
-abbrev verbs : List Verb
+abbrev pub verbs : List Verb
 verbs = Grid ∷ Map ∷ Table ∷ Tape ∷ Out ∷ In ∷ Cnot ∷ Words ∷ Serves ∷ Allowance ∷ []
 
 named_name : (v : Verb) → find (λ u. bytes_eq (name_of v) (name_of u)) verbs ≡ Some v

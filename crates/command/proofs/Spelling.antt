@@ -34,7 +34,7 @@ some_none : (w : List ℕ) (ws : List (List ℕ)) → w ∷ ws ≡ [] → ⊥
 some_none w ws e = omega (arith, ap length e)
 
 -- the first word names no verb
-unnamed : (ws later : List (List ℕ)) (w : List ℕ) → ws ≡ w ∷ later → ((v : Verb) → w ≡ name_of v → ⊥) → SaysNone ws
+pub unnamed : (ws later : List (List ℕ)) (w : List ℕ) → ws ≡ w ∷ later → ((v : Verb) → w ≡ name_of v → ⊥) → SaysNone ws
 unnamed ws later w e none c (held, s) =
     ⊎_elim
     (λ z. some_none w later (sym e ∙ s ∙ ap (map spelling) z))
@@ -42,7 +42,7 @@ unnamed ws later w e none c (held, s) =
     (by_verb c)
 
 -- it names a verb, and the later words do not fill the verb's shape
-unfilled : (ws later : List (List ℕ)) (w : List ℕ) (v : Verb) → ws ≡ w ∷ later → w ≡ name_of v → Unfilled (shape v) later → SaysNone ws
+pub unfilled : (ws later : List (List ℕ)) (w : List ℕ) (v : Verb) → ws ≡ w ∷ later → w ≡ name_of v → Unfilled (shape v) later → SaysNone ws
 unfilled ws later w v e n none c (held, s) =
     ⊎_elim
     (λ z. some_none w later (sym e ∙ s ∙ ap (map spelling) z))

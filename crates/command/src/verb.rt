@@ -86,7 +86,7 @@ fn named_among(verbs: &[Verb], word: &[u8]) -> Option<Verb>
 }
 
 // The verb that a word names, if it names one.
-fn verb_named(word: &[u8]) -> Option<Verb>
+pub fn verb_named(word: &[u8]) -> Option<Verb>
     ensures { MatchOption result ((v : Verb) → word.now ≢ name_of v) (λ v. word.now ≡ name_of v) }
 {
     named_among(&VERBS, word)
