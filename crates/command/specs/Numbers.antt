@@ -1,5 +1,5 @@
 -- Numbers in words.
-use Rattle.std.specs.Prelude.{◌≡◌, ℕ, ◌^◌, ◌<◌, Bool, ◌&&◌, ◌||◌, List, length, decimal, ◌==◌, nat_lt, slice_index}
+use Rattle.std.specs.Prelude.{◌≡◌, ℕ, ◌^◌, ◌<◌, Bool, ◌&&◌, List, length, decimal, ◌==◌, nat_lt, slice_index}
 
 -- the word writes n in base ten, with no sign and no zero in front, and n is below 2^64
 abbrev pub Writes : List ℕ → ℕ → Type 0
@@ -8,7 +8,3 @@ Writes w n = (n < 2 ^ 64) × (w ≡ decimal n)
 -- a zero stands before other bytes
 abbrev pub zero_led : List ℕ → Bool
 zero_led w = nat_lt 1 (length w) && slice_index w 0 == 48
-
--- a plus, or a zero before other bytes, stands in front
-abbrev pub prefixed : List ℕ → Bool
-prefixed w = slice_index w 0 == 43 || zero_led w
