@@ -34,7 +34,15 @@ impl Marks {
         if k >= chip.couplers() {
             return Err(MachineFault::NoSuchCoupler);
         }
-        self.marks[k] = on;
+        self.mark_as(k, on);
         Ok(())
+    }
+
+    // Kept: apart from `set`, so that a wrong mark is refused at the source.
+    fn mark_as(&mut self, k: usize, on: bool)
+        requires { k < 256 }
+        ensures { self.new.marks ≡ slice_set self.old.marks k on }
+    {
+        self.marks[k] = on;
     }
 }
