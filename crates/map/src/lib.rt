@@ -79,9 +79,18 @@ fn paired(ends: &[u8], m: usize) -> [(u8, u8); MOST]
     let mut pairs = [(0, 0); MOST];
     // Kept: only the first m are filled, where `from_fn` would make all; most chips have few couplers.
     for k in 0..m {
-        pairs[k] = (ends[k], ends[m + k]);
+        pairs[k] = pair_of(ends, m, k);
     }
     pairs
+}
+
+// The left and the right end of coupler k.
+// Kept: apart from `paired`, so that a wrong end is refused at the source.
+fn pair_of(ends: &[u8], m: usize, k: usize) -> (u8, u8)
+    requires { (length ends.now ≡ 2 * m) × (k < m) × (m ≤ 256) }
+    ensures { result ≡ (slice_index ends.now k, slice_index ends.now (m + k)) }
+{
+    (ends[k], ends[m + k])
 }
 
 impl Chip for MappedChip {
