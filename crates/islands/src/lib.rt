@@ -1,7 +1,7 @@
 // Islands: which places hang together, trees on them, and gates that gather a set of places into one.
 #![tactic(auto)]
 
-ghost use Rattle.std.specs.Prelude.{◌≡◌, ℕ, ◌+◌, ◌-◌, ◌*◌, ◌^◌, ◌<◌, ◌≤◌, ◌≢◌, List, length, set, bit_and, bit_or, count_ones, slice_index, slice_set};
+ghost use Rattle.std.specs.Prelude.{◌≡◌, ℕ, ◌+◌, ◌-◌, ◌*◌, ◌^◌, ◌<◌, ◌≤◌, ◌≢◌, List, [], ◌∷◌, ◌++◌, length, set, bit_and, bit_or, count_ones, slice_index, slice_set};
 ghost use Rattle.arrayvec.specs.ArrayVec.{array_vec_len};
 ghost use Rattle.parity.specs.Words.{entry, replay};
 ghost use Rattle.parity.specs.Sets.{bit, xor_over};
@@ -68,8 +68,7 @@ impl LiveGraph<'_> {
             match lowest(without(self.rows[q] & self.live, seen)) {
                 Some(r) => {
                     seen ^= single(r);
-                    tree.order.push(r);
-                    tree.parent[r] = q;
+                    hang(&mut tree, r, q);
                 }
                 None => head += 1,
             }
@@ -99,7 +98,6 @@ impl LiveGraph<'_> {
     }
 
     // The same along a tree that is at hand.
-    // Kept: the contracts say between which places of the one buffer the gates of each call lie, so a writer of both would be taken apart.
     pub fn bring_along(
         &self,
         tree: &Tree,
@@ -176,6 +174,18 @@ fn with_live(seen: u64, neighbours: u64, live: u64) -> u64
     ensures { result ≡ bit_or seen (bit_and neighbours live) }
 {
     seen | (neighbours & live)
+}
+
+// Puts the place r at the end of the order, with q for its parent.
+// Kept: apart from `tree_order`, so that a wrong parent is refused at the source.
+fn hang(tree: &mut Tree, r: usize, q: usize)
+    requires room { (array_vec_len tree.old.order < 64) × (r < 64) }
+    ensures placed { tree.new.order.items ≡ tree.old.order.items ++ r ∷ [] }
+    ensures one_more { array_vec_len tree.new.order ≡ array_vec_len tree.old.order + 1 }
+    ensures below_its_parent { tree.new.parent ≡ slice_set tree.old.parent r q }
+{
+    tree.order.push(r);
+    tree.parent[r] = q;
 }
 
 // Writes the gate with control c and target t as entry k of out, and returns where the gates end then.

@@ -1,4 +1,4 @@
-use Rattle.std.proofs.Common.{◌≡◌, ◌^◌, ◌<◌, [], ◌∷◌, length, sym, get_or, refl, ap, ◌∙◌, subst, arith, rules, length-set}
+use Rattle.std.proofs.Common.{◌≡◌, ◌^◌, ◌<◌, [], ◌∷◌, length, sym, get_or, refl, ap, ◌∙◌, subst, arith, length-set}
 use lib.Bits.{bit_xor}
 use Rattle.std.proofs.lemmas.List.{length-append}
 use Rattle.parity.specs.Sets.{bit}
@@ -43,12 +43,12 @@ loop-head-preserved c =
           (c.without.ensures.all r (and_in from live r (ap (λ p. bit (get_or rows p 0) r) here ∙ a) b) z))),
     )
 
-pub push-requires-in-Some : goal.push-requires-in-Some
-push-requires-in-Some c =
+pub hang-requires : goal.hang-requires
+hang-requires c =
     let next = next_place c.args.self.now.rows.now c.args.self.now.live c.loop-head.seen (get_or c.deref.result.now c.loop-head.head 0) c.in-Some.r
     c.args.self.now.inside (c.without.ensures.only c.in-Some.r c.in-Some.ensures.inside) in
     let fits = growing_room c.loop-head.invariant.3 next in
-    (search rules, omega (arith, fits, c.args.self.now.small))
+    record { room = (omega arith, omega (arith, fits, c.args.self.now.small)) }
 
 pub loop-head-preserved-in-Some : goal.loop-head-preserved-in-Some
 loop-head-preserved-in-Some c =
@@ -60,10 +60,10 @@ loop-head-preserved-in-Some c =
     let fits = growing_room c.loop-head.invariant.3 next in
     let grown : bit_xor c.loop-head.seen c.single-seen-in-Some.result ≡ bit_xor c.loop-head.seen (2 ^ c.in-Some.r) =
     ap (bit_xor c.loop-head.seen) (c.single-seen-in-Some.ensures.place (omega arith)) in (
-      omega (arith, c.push-in-Some.ensures.len),
-      omega (arith, c.push-in-Some.ensures.len),
-      length-set c.loop-head.tree.parent c.in-Some.r _ ∙ c.loop-head.invariant.2,
-      simp (c.push-in-Some.ensures.items, here, grown, length-append c.loop-head.tree.order.items (c.in-Some.r ∷ []))
+      omega (arith, c.hang.ensures.one_more),
+      omega (arith, c.hang.ensures.one_more),
+      ap length c.hang.ensures.below_its_parent ∙ length-set c.loop-head.tree.parent c.in-Some.r _ ∙ c.loop-head.invariant.2,
+      simp (c.hang.ensures.placed, c.hang.ensures.below_its_parent, here, grown, length-append c.loop-head.tree.order.items (c.in-Some.r ∷ []))
           (growing_add c.loop-head.invariant.3 next (omega (arith, c.len.ensures.value, c.loop-head-test.true)) refl (omega arith)),
     )
 
