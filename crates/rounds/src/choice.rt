@@ -1,6 +1,6 @@
 // The free choices of a plan: which wire is next, and which place it is given.
 // The plan is right for any choice that meets these contracts.
-ghost use Rattle.std.specs.Prelude.{◌≡◌, ℕ, ◌+◌, ◌^◌, ◌<◌, ◌≤◌, true, ◌≢◌, length, bit_xor, count_ones, MatchOption};
+ghost use Rattle.std.specs.Prelude.{◌≡◌, ℕ, ◌+◌, ◌^◌, ◌<◌, ◌≤◌, true, ◌≢◌, length, ◌==◌, bit_xor, count_ones, MatchOption};
 ghost use Rattle.parity.specs.Sets.{bit};
 ghost use Rattle.islands.specs.Graphs.{Reach};
 ghost use Rattle.rounds.specs.Ways.{Graph};
@@ -63,7 +63,15 @@ fn hangs_together_without(island: &LiveGraph<'_>, r: usize) -> bool
         live: rest,
     };
     match lowest(rest) {
-        Some(q) => others.island_of(q) == rest,
+        Some(q) => found_all(others.island_of(q), rest),
         None => true,
     }
+}
+
+// Whether what was found is all that there is.
+// Kept: apart from its caller, so that a wrong test is refused at the source.
+fn found_all(found: u64, all: u64) -> bool
+    ensures { result ≡ (found == all) }
+{
+    found == all
 }

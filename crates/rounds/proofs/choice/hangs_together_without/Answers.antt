@@ -53,7 +53,7 @@ returns-in-Some c e graph has x y nx ny a b =
     let rest = c.without-rest.result in
     let w : Without live c.single.result rest = (c.without-rest.ensures.only, c.without-rest.ensures.all) in
     let one = c.single.ensures.place (low (length adj) live r c.args.island.now.small c.args.island.now.inside has) in
-    let same : c.island_of.result ≡ rest = eqb-true c.island_of.result rest e in
+    let same : c.island_of.result ≡ rest = eqb-true c.island_of.result rest (sym c.found_all.ensures ∙ e) in
     let at : (q : ℕ) → (q ≢ r) → bit live q ≡ 1 → Reach adj rest c.in-Some.q q =
     λ q n o. c.island_of.ensures.only_reached q (ap (λ z. bit z q) same ∙ left live c.single.result rest r q one w n o) in
     reach_more (λ q o. no_more live c.single.result rest r q one w o)

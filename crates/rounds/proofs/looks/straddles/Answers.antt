@@ -1,6 +1,5 @@
 use Rattle.std.proofs.Common.{◌≡◌, ℕ, ◌-◌, ◌^◌, ◌<◌, length, sym, ap, ◌∙◌, subst}
 use lib.Bits.{bit_and}
-use Rattle.std.proofs.lemmas.Bool.{not-true, not-false, eqb-true, eqb-false}
 use Rattle.parity.specs.Sets.{bit}
 use Rattle.parity.proofs.Bits.{zero_one, bit_none, place_below, set_unless}
 use Rattle.parity.proofs.Counts.{some_place}
@@ -24,7 +23,7 @@ pub returns-in-Some-clause-yes : goal.returns-in-Some-clause-yes
 returns-in-Some-clause-yes c e _ =
     let n = length c.args.graph.now.rows.now in
     let live = c.args.graph.now.live in
-    let far = some_place c.off_island.result (eqb-false c.off_island.result 0 (not-true _ e)) in
+    let far = some_place c.off_island.result (c.any.ensures.yes e) in
     let two = c.off_island.ensures.only far.0 far.1 in
     record {
       from = c.in-Some.q;
@@ -41,7 +40,7 @@ returns-in-Some-clause-no c e low =
     let x = c.args.x in
     let live = c.args.graph.now.live in
     let isl = c.island_of.result in
-    let none = eqb-true c.off_island.result 0 (not-false _ e) in
+    let none = c.any.ensures.no e in
     one_island_from c.args.graph.now.rows.now live c.in-Some.q x c.requires.graph
     (λ q o. c.island_of.ensures.only_reached q (set_unless isl q (λ z.
     zero_one (bit c.off_island.result q) (ap (λ (y : ℕ). bit y q) none ∙ bit_none q)
