@@ -2,13 +2,28 @@
 ghost use Rattle.std.specs.Prelude.{◌≡◌, ℕ, ◌<◌, ◌≤◌, map, length, slice_index};
 ghost use Rattle.parity.specs.Placements.{wires_to_places};
 ghost use Rattle.planner.specs.Plans.{Lowest};
-ghost use Rattle.planner.specs.Views.{places_of};
+ghost use Rattle.planner.specs.Views.{words_of, duals_of, places_of};
 
-use crate::store::Places;
+use crate::store::{Block, Places};
 use arrayvec::ArrayVec;
 use parity::sets::{flip, has, lowest};
 
-// The places of the wires in each word: what a wire wants at its new place.
+// The places of the wires in each word of the block: what a wire wants at its new place.
+// Kept: apart from their callers, this and the next, so that words and duals exchanged are refused at the source.
+pub(crate) fn carried_words(block: &Block, places: &Places) -> ArrayVec<u64, 64>
+    ensures { result.items ≡ map (wires_to_places (places_of places.now)) (words_of block.now) }
+{
+    carry_to_places(block.words(), places)
+}
+
+// The same for the dual words.
+pub(crate) fn carried_duals(block: &Block, places: &Places) -> ArrayVec<u64, 64>
+    ensures { result.items ≡ map (wires_to_places (places_of places.now)) (duals_of block.now) }
+{
+    carry_to_places(block.duals.as_slice(), places)
+}
+
+// The places of the wires in each word.
 pub(crate) fn carry_to_places(words: &[u64], places: &Places) -> ArrayVec<u64, 64>
     requires { length words.now ≤ 64 }
     ensures { result.items ≡ map (wires_to_places (places_of places.now)) words.now }

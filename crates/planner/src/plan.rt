@@ -7,7 +7,7 @@ ghost use Rattle.planner.specs.Plans.{room, NoPlan, PlanIn};
 ghost use Rattle.planner.specs.Reasons.{SomeOnTwo, SomeStraddles};
 ghost use Rattle.planner.specs.Views.{neighbours_of, words_of, places_of, SizesAre, PlanFor, Planless};
 
-use crate::carry::{carry_to_places, lowest_of_each};
+use crate::carry::{carried_duals, carried_words, lowest_of_each};
 use crate::fault::PlanFault;
 use crate::store::{Adjacency, Block, Places};
 use chip::Chip;
@@ -99,8 +99,8 @@ fn plan_sized(
     ensures needs_two_islands { result ≡ None → SomeStraddles (neighbours_of adjacency.now) (words_of block.now) (places_of places.now) }
     ensures untouched { result ≡ None → out.new ≡ out.old }
 {
-    let mut wanted = carry_to_places(block.words(), places);
-    let mut against = carry_to_places(block.duals.as_slice(), places);
+    let mut wanted = carried_words(block, places);
+    let mut against = carried_duals(block, places);
     let gates = rounds::plan(
         adjacency.rows.as_slice(),
         wanted.as_mut_slice(),

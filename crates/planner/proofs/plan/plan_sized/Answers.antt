@@ -25,12 +25,12 @@ plan-requires c =
     let a = c.args.adjacency.now in
     let b = c.args.block.now in
     let p = c.args.places.now in
-    let same = c.as_slice-2.ensures.value in
-    let n = length c.as_slice-2.result.now in
+    let same = c.as_slice.ensures.value in
+    let n = length c.as_slice.result.now in
     let s : SizesAre n b p = subst (λ (l : List ℕ). SizesAre (length l) b p) (sym same) c.requires.sizes in
     let carried = map (wires_to_places (places_of p)) in
-    let e : c.as_mut_slice.result.now ≡ carried (words_of b) = c.as_mut_slice.ensures.value ∙ c.carry_to_places-wanted.ensures ∙ ap carried c.words.ensures in
-    let f : c.as_mut_slice-2.result.now ≡ carried (duals_of b) = c.as_mut_slice-2.ensures.value ∙ c.carry_to_places-against.ensures ∙ ap carried c.as_slice.ensures.value in
+    let e : c.as_mut_slice.result.now ≡ carried (words_of b) = c.as_mut_slice.ensures.value ∙ c.carried_words-wanted.ensures in
+    let f : c.as_mut_slice-2.result.now ≡ carried (duals_of b) = c.as_mut_slice-2.ensures.value ∙ c.carried_duals-against.ensures in
     let low = wanted_below n (words_of b) (places_of p) (placed n b p s) (words_below n b p s) in
     record {
       small = omega arith;
@@ -64,9 +64,9 @@ invariant_of-places c =
     let p = c.args.places.now in
     let at = c.lowest_of_each-at in
     let s = c.requires.sizes in
-    let new = (sized_plan a b p s c.carry_to_places-wanted.result _ _ _ _ _ _ _ _ at.result.items _ c.as_slice-2.ensures.value c.as_mut_slice.ensures.value
-    (c.carry_to_places-wanted.ensures ∙ ap (map (wires_to_places (places_of p))) c.words.ensures) (c.plan.ensures.planned c.in_ok-gates.gates c.in_ok-gates.was)
-    c.as_slice-3.ensures.value at.ensures.one_each at.ensures.lowest).reaches.placed in
+    let new = (sized_plan a b p s c.carried_words-wanted.result _ _ _ _ _ _ _ _ at.result.items _ c.as_slice.ensures.value c.as_mut_slice.ensures.value
+    c.carried_words-wanted.ensures (c.plan.ensures.planned c.in_ok-gates.gates c.in_ok-gates.was)
+    c.as_slice-2.ensures.value at.ensures.one_each at.ensures.lowest).reaches.placed in
     let few = a.few in
     let some = b.some in
     let each = new.one_each in
@@ -82,9 +82,9 @@ returns c =
     let b = c.args.block.now in
     let p = c.args.places.now in
     let at = c.lowest_of_each-at in
-    let found = sized_plan a b p c.requires.sizes c.carry_to_places-wanted.result _ _ _ _ _ _ _ _ at.result.items _ c.as_slice-2.ensures.value c.as_mut_slice.ensures.value
-    (c.carry_to_places-wanted.ensures ∙ ap (map (wires_to_places (places_of p))) c.words.ensures) (c.plan.ensures.planned c.in_ok-gates.gates c.in_ok-gates.was)
-    c.as_slice-3.ensures.value at.ensures.one_each at.ensures.lowest in
+    let found = sized_plan a b p c.requires.sizes c.carried_words-wanted.result _ _ _ _ _ _ _ _ at.result.items _ c.as_slice.ensures.value c.as_mut_slice.ensures.value
+    c.carried_words-wanted.ensures (c.plan.ensures.planned c.in_ok-gates.gates c.in_ok-gates.was)
+    c.as_slice-2.ensures.value at.ensures.one_each at.ensures.lowest in
     record {
       planned = λ q z. subst (λ (r : Answer). (length (places_of r.places) ≡ length (neighbours_of a)) × PlanFor a b p c.args.out.now c.plan.new.out r.gates (places_of r.places)) (some_same z) (found.reaches.placed.one_each, found);
       unreachable = λ z. absurd cc;
@@ -100,9 +100,9 @@ returns-in_err-gates c =
     let s = c.requires.sizes in
     let n = length (neighbours_of a) in
     let carried = map (wires_to_places (places_of p)) in
-    let e : c.as_mut_slice.result.now ≡ carried (words_of b) = c.as_mut_slice.ensures.value ∙ c.carry_to_places-wanted.ensures ∙ ap carried c.words.ensures in
-    let refused = subst (λ l. Refused l (carried (words_of b))) c.as_slice-2.ensures.value
-    (subst (Refused c.as_slice-2.result.now) e (c.plan.ensures.refused c.in_err-gates.was)) in
+    let e : c.as_mut_slice.result.now ≡ carried (words_of b) = c.as_mut_slice.ensures.value ∙ c.carried_words-wanted.ensures in
+    let refused = subst (λ l. Refused l (carried (words_of b))) c.as_slice.ensures.value
+    (subst (Refused c.as_slice.result.now) e (c.plan.ensures.refused c.in_err-gates.was)) in
     record {
       planned = λ j z. absurd cc;
       unreachable = λ _. refused_none n (words_of b) (places_of p) (placed n b p s) (words_below n b p s) (neighbours_of a) a.graph refl refused;
