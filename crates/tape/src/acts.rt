@@ -98,7 +98,7 @@ impl<C: Chip> Machine for TapeMachine<C> {
     ghost fitting = { λ m. Tapes.fits (C.Chip.layout m.chip) m (C.Chip.sound m.chip) };
 
     fn word(&self, q: usize) -> Result<u64, MachineFault> {
-        // Before the replay, so that a refusal does not wait for it.
+        // Kept: an `if` before the replay, so that a refusal does not wait for it.
         if q >= self.chip.width() {
             return Err(MachineFault::PlaceOutOfRange);
         }
