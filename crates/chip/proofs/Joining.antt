@@ -61,13 +61,13 @@ none_touches a b j [] f = refl
 none_touches a b j (e ∷ es) f = rw (f 0 (omega arith)) (none_touches a b (j + 1) es (λ k h. f (suc k) (omega arith)))
 
 -- what a search of the couplers' numbers answers is the coupler that joins the places
-pub found_joining : (l : Layout) (a b m : ℕ) (r : Option ℕ) → m ≡ length l.couplers
+pub found_joining : (l : Layout) (a b s m : ℕ) (r : Option ℕ) → s ≡ 0 → m ≡ length l.couplers
     → MatchOption r
-    ((k : ℕ) → 0 ≤ k → k < m → k < length l.couplers → touches a b (ends_at l k) ≡ false)
-    (λ k. (0 ≤ k) × (k < m) × (touches a b (ends_at l k) ≡ true) × ((i : ℕ) → 0 ≤ i → i < k → i < length l.couplers → touches a b (ends_at l i) ≡ false))
+    ((k : ℕ) → s ≤ k → k < m → k < length l.couplers → touches a b (ends_at l k) ≡ false)
+    (λ k. (s ≤ k) × (k < m) × (touches a b (ends_at l k) ≡ true) × ((i : ℕ) → s ≤ i → i < k → i < length l.couplers → touches a b (ends_at l i) ≡ false))
     → r ≡ joining a b l.couplers
-found_joining l a b m None same none = sym (none_touches a b 0 l.couplers (λ k h. none k (omega arith) (omega arith) h))
-found_joining l a b m (Some k) same at =
+found_joining l a b s m None begins same none = sym (none_touches a b 0 l.couplers (λ k h. none k (omega arith) (omega arith) h))
+found_joining l a b s m (Some k) begins same at =
     let below = at.1 in
     sym (first a b 0 k l.couplers (omega arith) at.2 (λ i h. at.3 i (omega arith) h (omega arith)) ∙ ap Some (omega arith))
 

@@ -10,6 +10,7 @@ pub mod fault;
 pub mod on_chip;
 
 use fault::ChipFault;
+use std::ops::Range;
 
 // What a chip is known by is its layout; the law says that every layout is sound.
 pub trait Chip {
@@ -31,10 +32,19 @@ pub trait Chip {
     fn joins(&self, a: usize, b: usize) -> Option<usize>
         ensures { result ≡ joining a b (layout self.now).couplers }
     {
-        (0..self.couplers()).find(|&k| self.ends(k).is_ok_and(|ends| meets((a, b), ends)))
+        numbers(self.couplers()).find(|&k| self.ends(k).is_ok_and(|ends| meets((a, b), ends)))
     }
 
     ghost sound: { (c : Self) → Sound (layout c) };
+}
+
+// The numbers of m couplers.
+// Apart from `joins`, so that a number left out is refused at the source.
+fn numbers(m: usize) -> Range<usize>
+    ensures first { result.start ≡ 0 }
+    ensures past_last { result.end ≡ m }
+{
+    0..m
 }
 
 // Whether a coupler with these ends joins the two places, in either order.
