@@ -1,7 +1,7 @@
 // Words and gates: what a CNOT does to the words at the places of a chip.
 #![tactic(auto)]
 
-ghost use Rattle.std.specs.Prelude.{◌≡◌, map};
+ghost use Rattle.std.specs.Prelude.{◌≡◌, ◌^◌, ◌<◌, map};
 ghost use Rattle.parity.specs.Words.{fresh, cnot, gate_of, replay, Rereads};
 
 use sets::ends_of;
@@ -14,7 +14,16 @@ pub mod sets;
 pub fn fresh_words() -> [u64; 64]
     ensures { result ≡ fresh 64 }
 {
-    array::from_fn(|q| 1 << q)
+    array::from_fn(|q| fresh_word(q))
+}
+
+// The word of place q: its own bit.
+// Apart from `fresh_words`, so that a wrong word is refused at the source.
+fn fresh_word(q: usize) -> u64
+    requires { q < 64 }
+    ensures { result ≡ 2 ^ q }
+{
+    1 << q
 }
 
 // Replays gates, each written as 64 x control + target, on words.
