@@ -23,23 +23,20 @@ impl GridChip {
         }
         Ok(GridChip { rows, columns })
     }
-}
 
-impl Chip for GridChip {
-    ghost layout = { layout_of };
-
-    ghost sound = { λ c. grid_sound c.rows c.columns c.some_row c.some_column c.at_most_64 };
-
-    fn width(&self) -> usize {
-        self.rows * self.columns
-    }
-
-    fn couplers(&self) -> usize {
+    // How many couplers there are. This and `ends_of` go by rows and columns; the proofs of the chip's calls tie them to the layout.
+    // So a wrong count and wrong ends are refused at the source.
+    fn count(&self) -> usize
+        ensures { result ≡ grid_couplers self.now.rows self.now.columns }
+    {
         self.rows * (self.columns - 1) + (self.rows - 1) * self.columns
     }
 
-    fn ends(&self, k: usize) -> Result<(usize, usize), ChipFault> {
-        if k >= self.couplers() {
+    // The two places that coupler k joins.
+    fn ends_of(&self, k: usize) -> Result<(usize, usize), ChipFault>
+        ensures { result ≡ answered (grid_coupler_fault self.now.rows self.now.columns k) (grid_ends self.now.rows self.now.columns k) }
+    {
+        if k >= self.count() {
             return Err(ChipFault::NoSuchCoupler);
         }
         let rightward = self.rows * (self.columns - 1);
@@ -52,5 +49,23 @@ impl Chip for GridChip {
             let upper = k - rightward;
             Ok((upper, upper + self.columns))
         }
+    }
+}
+
+impl Chip for GridChip {
+    ghost layout = { layout_of };
+
+    ghost sound = { λ c. grid_sound c.rows c.columns c.some_row c.some_column c.at_most_64 };
+
+    fn width(&self) -> usize {
+        self.rows * self.columns
+    }
+
+    fn couplers(&self) -> usize {
+        self.count()
+    }
+
+    fn ends(&self, k: usize) -> Result<(usize, usize), ChipFault> {
+        self.ends_of(k)
     }
 }
