@@ -1,11 +1,20 @@
 // The check of a map's couplers.
 ghost use Rattle.std.specs.Prelude.{◌≡◌, ◌<◌, length};
+ghost use Rattle.chip.specs.Layout.{touches};
 ghost use Rattle.map.specs.Couplers.{ends_in, repeated, bad_coupler, first_bad};
 
 use crate::store::in_places;
 use chip::meets;
 
-// Whether a coupler before k joins the same two places, in either order.
+// Whether two couplers join the same two places, in either order.
+// Apart from `repeats`, so that a wrong test is refused at the source.
+fn same_places(earlier: (u8, u8), ends: (usize, usize)) -> bool
+    ensures { result ≡ touches earlier.0 earlier.1 ends }
+{
+    meets(in_places(earlier), ends)
+}
+
+// Whether a coupler before k joins the same two places.
 fn repeats(couplers: &[(u8, u8)], k: usize) -> bool
     requires { k < length couplers.now }
     ensures { result ≡ repeated (ends_in couplers.now) k }
@@ -13,7 +22,7 @@ fn repeats(couplers: &[(u8, u8)], k: usize) -> bool
     let ends = in_places(couplers[k]);
     couplers[..k]
         .iter()
-        .any(|&earlier| meets(in_places(earlier), ends))
+        .any(|&earlier| same_places(earlier, ends))
 }
 
 // Whether no chip with these places may have coupler k.

@@ -85,7 +85,7 @@ fn paired(ends: &[u8], m: usize) -> [(u8, u8); MOST]
 }
 
 // The left and the right end of coupler k.
-// Kept: apart from `paired`, so that a wrong end is refused at the source.
+// Apart from `paired`, so that a wrong end is refused at the source.
 fn pair_of(ends: &[u8], m: usize, k: usize) -> (u8, u8)
     requires { (length ends.now ≡ 2 * m) × (k < m) × (m ≤ 256) }
     ensures { result ≡ (slice_index ends.now k, slice_index ends.now (m + k)) }
