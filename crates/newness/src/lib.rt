@@ -19,7 +19,7 @@ pub fn is_new<M: Machine>(machine: &M) -> bool
 
 // Whether place q carries bit q alone, for each q.
 fn has_fresh_words<M: Machine>(machine: &M) -> bool
-    ensures yes { result ≡ true → (q : ℕ) → q < (M.Chip.layout machine.now).places → slice_index (M.Machine.meaning machine.now).words q ≡ 2 ^ q }
+    ensures yes { result ≡ true → (M.Machine.meaning machine.now).words ≡ fresh (M.Chip.layout machine.now).places }
     ensures no { result ≡ false → (q : ℕ) × (q < (M.Chip.layout machine.now).places) × (slice_index (M.Machine.meaning machine.now).words q ≢ 2 ^ q) }
 {
     (0..machine.width()).all(|q| has_fresh_word(machine, q))
@@ -34,7 +34,7 @@ fn has_fresh_word<M: Machine>(machine: &M, q: usize) -> bool
 
 // Whether every coupler is in service.
 fn has_all_in_service<M: Machine>(machine: &M) -> bool
-    ensures yes { result ≡ true → (k : ℕ) → k < length (M.Chip.layout machine.now).couplers → InService (M.Machine.meaning machine.now) k }
+    ensures yes { result ≡ true → (M.Machine.meaning machine.now).service ≡ replicate (length (M.Chip.layout machine.now).couplers) true }
     ensures no { result ≡ false → (k : ℕ) × (k < length (M.Chip.layout machine.now).couplers) × (InService (M.Machine.meaning machine.now) k → ⊥) }
 {
     (0..machine.couplers()).all(|k| is_in_service(machine, k))
