@@ -177,7 +177,7 @@ fn with_live(seen: u64, neighbours: u64, live: u64) -> u64
 }
 
 // Puts the place r at the end of the order, with q for its parent.
-// Kept: apart from `tree_order`, so that a wrong parent is refused at the source.
+// Apart from `tree_order`, so that a wrong parent is refused at the source.
 fn hang(tree: &mut Tree, r: usize, q: usize)
     requires room { (array_vec_len tree.old.order < 64) × (r < 64) }
     ensures placed { tree.new.order.items ≡ tree.old.order.items ++ r ∷ [] }
