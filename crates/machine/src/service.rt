@@ -38,7 +38,7 @@ impl Marks {
         Ok(())
     }
 
-    // Kept: apart from `set`, so that a wrong mark is refused at the source.
+    // Sets the mark of coupler k. Apart from `set`, so that a wrong mark is refused at the source.
     fn mark_as(&mut self, k: usize, on: bool)
         requires { k < 256 }
         ensures { self.new.marks ≡ slice_set self.old.marks k on }

@@ -9,7 +9,7 @@ use arrayvec::ArrayVec;
 use parity::sets::{flip, has, lowest};
 
 // The places of the wires in each word of the block: what a wire wants at its new place.
-// Kept: apart from their callers, this and the next, so that words and duals exchanged are refused at the source.
+// Apart from `plan_sized`, as `carried_duals` is, so that the one set of words taken for the other is refused at the source.
 pub(crate) fn carried_words(block: &Block, places: &Places) -> ArrayVec<u64, 64>
     ensures { result.items ≡ map (wires_to_places (places_of places.now)) (words_of block.now) }
 {

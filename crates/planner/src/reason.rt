@@ -8,7 +8,7 @@ ghost use Rattle.planner.specs.Laws.{OnOneIsland};
 ghost use Rattle.planner.specs.Reasons.{FirstOnTwo};
 ghost use Rattle.planner.specs.Views.{neighbours_of, words_of, places_of, SizesAre};
 
-use crate::carry::carried_words;
+use crate::carry::carry_to_places;
 use crate::store::{Adjacency, Block, Places};
 use chip::Chip;
 use machine::Machine;
@@ -51,6 +51,6 @@ fn first_sized(adjacency: &Adjacency, block: &Block, places: &Places) -> Option<
     ensures first { (w : ℕ) → result ≡ Some w → FirstStraddling (neighbours_of adjacency.now) (map (wires_to_places (places_of places.now)) (words_of block.now)) w }
     ensures none { result ≡ None → (w : ℕ) → w < length (neighbours_of adjacency.now) → OneIsland (neighbours_of adjacency.now) (slice_index (map (wires_to_places (places_of places.now)) (words_of block.now)) w) }
 {
-    let wanted = carried_words(block, places);
+    let wanted = carry_to_places(block.words(), places);
     first_straddling(adjacency.rows.as_slice(), wanted.as_slice())
 }

@@ -16,7 +16,7 @@ first_straddling-requires c =
     let same = c.as_slice.ensures.value in
     let n = length c.as_slice.result.now in
     let s : SizesAre n b p = subst (λ (l : List ℕ). SizesAre (length l) b p) (sym same) c.requires.sizes in
-    let e = c.as_slice-2.ensures.value ∙ c.carried_words-wanted.ensures in
+    let e = c.as_slice-2.ensures.value ∙ c.carry_to_places-wanted.ensures ∙ ap (map (wires_to_places (places_of p))) c.words.ensures in
     record {
       small = omega arith;
       graph = subst Graph (sym same) a.graph;
@@ -31,7 +31,7 @@ returns c =
     let same = c.as_slice.ensures.value in
     let sets = c.as_slice-2.result.now in
     let wanted = map (wires_to_places (places_of p)) (words_of b) in
-    let e : sets ≡ wanted = c.as_slice-2.ensures.value ∙ c.carried_words-wanted.ensures in
+    let e : sets ≡ wanted = c.as_slice-2.ensures.value ∙ c.carry_to_places-wanted.ensures ∙ ap (map (wires_to_places (places_of p))) c.words.ensures in
     let all : length sets ≡ length (neighbours_of a) = ap length e ∙ length-map (words_of b) (wires_to_places (places_of p)) ∙ c.requires.sizes.0 in
     record {
       first = λ w z. subst (λ (adj : List ℕ). FirstStraddling adj wanted w) same (subst (λ (l : List ℕ). FirstStraddling c.as_slice.result.now l w) e (c.first_straddling.ensures.straddles w z));
